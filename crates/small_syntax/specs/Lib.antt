@@ -1,0 +1,5 @@
+pub mod Tree
+pub mod Spelling
+pub mod Reserved
+pub mod Order
+pub mod Meaning
