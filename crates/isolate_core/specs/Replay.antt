@@ -39,11 +39,12 @@ abbrev pub Replays : Kept → Type 0
 Replays kept = ReplaysTo kept.journal kept.contexts
 
 -- a task may be performed: on a cell that isn't void it fits
+abbrev pub FitsUnlessVoid : Option (List Names) → Task → Type 0
+FitsUnlessVoid None task = Unit {0}
+FitsUnlessVoid (Some contexts) task = Fits contexts task
+
 abbrev pub MayPerform : Kept → Task → Type 0
-MayPerform kept task = may kept.contexts where
-  may : Option (List Names) → Type 0
-  may None = Unit {0}
-  may (Some contexts) = Fits contexts task
+MayPerform kept task = FitsUnlessVoid kept.contexts task
 
 -- exactly one entry, that of the task, joined the journal
 pub record Performs (task : Task) (old new : Kept) : Type 0 where
