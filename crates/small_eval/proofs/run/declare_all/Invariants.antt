@@ -1,0 +1,9 @@
+use Rattle.std.proofs.Common.{◌≡◌, ◌++◌, true, length}
+use Rattle.small_eval.specs.Steps.{are_new, entries_of}
+use Rattle.small_eval.proofs.run.declare_all.Given as goal
+
+abbrev pub invariant-loop-left : goal.invariant-loop-left
+invariant-loop-left l = (are_new l.names l.left ≡ true) × (l.fn.names ++ entries_of l.fn.lines ≡ l.names ++ entries_of l.left)
+
+abbrev pub decreases-loop-left : goal.decreases-loop-left
+decreases-loop-left l = length l.left
