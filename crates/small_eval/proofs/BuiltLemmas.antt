@@ -8,7 +8,7 @@ use Rattle.small_syntax.specs.Order.{steps_of, let_of}
 use Rattle.small_syntax.specs.Meaning.{Names, is_declared, may_be_read, reads_well, ends_well, is_built_after, with_declared}
 use Rattle.small_syntax.specs.declared.program.Step.{Step}
 use Rattle.small_syntax.specs.declared.program.Let.{Let}
-use Rattle.small_eval.specs.Steps.{reads_name_well, steps_read_well, steps_end_well, is_line_built, are_lines_built, entries_of, are_new}
+use Rattle.small_eval.specs.Steps.{reads_name_well, steps_read_well, steps_end_well, is_line_built, are_lines_built, entries_of, are_new, are_unknown}
 
 and_true : (b : Bool) → (b && true) ≡ b
 and_true true = refl
@@ -109,3 +109,19 @@ new_after names earlier (line ∷ lines) last built =
 pub new_where_built : (names : Names) (lines : List Let) (last : Option (List Step)) → are_lines_built names [] lines last ≡ true → are_new names lines ≡ true
 unfolding fresh
 new_where_built names lines last built = ap (λ ns. are_new ns lines) (sym (append-nil names)) ∙ new_after names [] lines last built
+
+-- the lines of a program that is built declare words that no name has
+pub unknown_where_built : (names : Names) (earlier : List (List ℕ)) (lines : List Let) (last : Option (List Step))
+    → are_lines_built names earlier lines last ≡ true → are_unknown names lines ≡ true
+unknown_where_built names earlier [] last built = refl
+unknown_where_built names earlier (line ∷ lines) last built =
+    and_both _ _
+    (and_left _ (not (list_any (bytes_eq line.name) earlier)) (and_left _ (steps_read_well names earlier line.value) (and_left _ (are_lines_built names (earlier ++ line.name ∷ []) lines last) built)))
+    (unknown_where_built names (earlier ++ line.name ∷ []) lines last (and_right (is_line_built names earlier line) _ built))
+
+-- of lines whose words no name has, the first has a word that no name has, and so have the others
+pub unknown_first : (names : Names) (line : Let) (lines : List Let) → are_unknown names (line ∷ lines) ≡ true → not (is_declared line.name names) ≡ true
+unknown_first names line lines unknown = and_left _ (are_unknown names lines) unknown
+
+pub unknown_others : (names : Names) (line : Let) (lines : List Let) → are_unknown names (line ∷ lines) ≡ true → are_unknown names lines ≡ true
+unknown_others names line lines unknown = and_right (not (is_declared line.name names)) _ unknown

@@ -1,11 +1,13 @@
 -- Records of names, and the look-ups and changes of a map's entries.
-use Rattle.std.proofs.Common.{◌≡◌, ℕ, ℤ, Bool, true, false, cond, List, [], ◌∷◌, ◌++◌, ◌||◌, if◌then◌else◌, Option, None, Some, is_some, refl, ap, sym, ◌∙◌, true≢false}
+use Rattle.std.proofs.Common.{◌≡◌, ℕ, ℤ, Bool, true, false, cond, List, [], ◌∷◌, ◌++◌, ◌||◌, if◌then◌else◌, Option, None, Some, is_some, refl, ap, sym, ◌∙◌, true≢false, not, append-nil, append_assoc, take, length}
 use Rattle.std.specs.List.{list_any}
 use Rattle.std.specs.Map.{lookup, set_value}
 use Rattle.std.specs.Option.{unwrap_or}
 use Rattle.std.specs.Str.{bytes_eq}
 use Rattle.indexmap.specs.IndexMap.{insert_entry}
+use Rattle.std.proofs.Math.Seq.{take-append_seam}
 use Rattle.small_syntax.specs.Meaning.{Names, is_declared, number_of, with_number}
+use Rattle.small_eval.specs.Steps.{BeginsWith}
 
 pub number_of_lookup : (word : List ℕ) (names : Names) → number_of word names ≡ unwrap_or (lookup (bytes_eq word) names) None
 number_of_lookup word [] = refl
@@ -40,3 +42,33 @@ with_number_absent word (e ∷ names) n absent =
   where
     some_none : Some e.1 ≡ None → ⊥
     some_none h = cc
+
+-- ---- names that stay in front
+
+pub begins_with_itself : (names : Names) → BeginsWith names names
+begins_with_itself names = record { rest = []; whole = sym (append-nil names) }
+
+pub begins_with_more : (front names more : Names) → BeginsWith front names → BeginsWith front (names ++ more)
+begins_with_more front names more begins =
+    record { rest = begins.rest ++ more; whole = ap (λ ns. ns ++ more) begins.whole ∙ append_assoc front begins.rest more }
+
+with_number-append : (word : List ℕ) (n : ℤ) (front rest : Names) → is_declared word front ≡ false
+    → with_number word n (front ++ rest) ≡ front ++ with_number word n rest
+with_number-append word n [] rest unknown = refl
+with_number-append word n (e ∷ front) rest unknown =
+    elim (bytes_eq word e.0) as (λ b. (b || is_declared word front) ≡ false
+    → (if b then (e.0, Some n) ∷ (front ++ rest) else e ∷ with_number word n (front ++ rest)) ≡ e ∷ (front ++ with_number word n rest))
+    [ true ↦ (λ h. absurd (true≢false h)) | false ↦ (λ h. ap (λ ns. e ∷ ns) (with_number-append word n front rest h)) ] unknown
+
+not_false : (b : Bool) → not b ≡ true → b ≡ false
+not_false true h = sym h
+not_false false h = refl
+
+-- a number for a word that none of the first names has leaves them in front
+pub begins_with_set : (front names : Names) (word : List ℕ) (n : ℤ) → BeginsWith front names → not (is_declared word front) ≡ true
+    → BeginsWith front (with_number word n names)
+begins_with_set front names word n begins unknown =
+    record {
+      rest = with_number word n begins.rest;
+      whole = ap (with_number word n) begins.whole ∙ with_number-append word n front begins.rest (not_false _ unknown);
+    }

@@ -50,6 +50,16 @@ abbrev pub are_new : Names → List Let → Bool
 are_new names [] = true
 are_new names (line ∷ lines) = not (is_declared line.name names) && are_new (names ++ (line.name, None) ∷ []) lines
 
+-- none of the lines' words is one of these
+abbrev pub are_unknown : Names → List Let → Bool
+are_unknown names [] = true
+are_unknown names (line ∷ lines) = not (is_declared line.name names) && are_unknown names lines
+
+-- the names begin with these
+pub record BeginsWith (front names : Names) : Type 0 where
+  pub rest : Names
+  pub whole : names ≡ front ++ rest
+
 -- ---- values
 
 -- the number, or none where it is out of range

@@ -1,6 +1,6 @@
 //! The names of a context.
 
-ghost use Rattle.std.specs.Prelude.{◌≡◌, [], ◌∷◌, ◌++◌, length, None, false, OnOk, OnErr};
+ghost use Rattle.std.specs.Prelude.{◌≡◌, [], ◌∷◌, ◌++◌, length, take, None, false, OnOk, OnErr};
 ghost use Rattle.small_syntax.specs.Meaning.{is_declared, number_of, with_number};
 ghost use Rattle.small_eval.specs.Words.{HasDistinctWords};
 
@@ -85,5 +85,12 @@ impl Names {
             return;
         };
         *place = Some(number);
+    }
+
+    /// Forgets the names after the first `len`.
+    pub(crate) fn truncate(&mut self, len: usize)
+        ensures { self.new ≡ take len self.old }
+    {
+        self.map.truncate(len);
     }
 }

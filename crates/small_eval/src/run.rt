@@ -1,8 +1,9 @@
 //! Running a program over the names.
 
-ghost use Rattle.std.specs.Prelude.{◌≡◌, ◌++◌, true, IfOk, OnOk};
+ghost use Rattle.std.specs.Prelude.{◌≡◌, ◌++◌, [], true, IfOk, OnOk, OnErr};
 ghost use Rattle.std.specs.Option.{option_map};
-ghost use Rattle.small_eval.specs.Steps.{put, after_step, value_of_steps, ending_of_steps, run_lines, entries_of, are_new, evaluated};
+ghost use Rattle.small_syntax.specs.Meaning.{Names};
+ghost use Rattle.small_eval.specs.Steps.{put, after_step, value_of_steps, ending_of_steps, run_lines, entries_of, are_new, are_unknown, BeginsWith, are_lines_built, evaluated};
 
 use crate::Names;
 use crate::arithmetic::{applied, written};
@@ -58,9 +59,11 @@ fn ending_of(alloc: Global, names: &Names, last: &Option<Steps>) -> Result<Evalu
 }
 
 /// Enters the words of the lines, which are new, without numbers.
+#[tactic(auto, using(crate::proofs::NameLemmas::begins_with_itself, crate::proofs::NameLemmas::begins_with_more))]
 fn declare_all(alloc: Global, names: &mut Names, lines: &[Let]) -> Result<(), NoMemory>
     requires { are_new names.old lines.now ≡ true }
-    ensures { OnOk result (names.new ≡ names.old ++ entries_of lines.now) }
+    ensures ok { OnOk result (names.new ≡ names.old ++ entries_of lines.now) }
+    ensures kept { BeginsWith names.old names.new }
 {
     let mut left = lines;
     while let [line, rest @ ..] = left {
@@ -77,7 +80,8 @@ fn run_lines(
     lines: &[Let],
     last: &Option<Steps>,
 ) -> Result<Evaluation, NoMemory>
-    ensures { IfOk result (λ evaluation. run_lines names.old lines.now last.now ≡ (names.new, evaluation)) }
+    ensures ok { IfOk result (λ evaluation. run_lines names.old lines.now last.now ≡ (names.new, evaluation)) }
+    ensures kept { (front : Names) → BeginsWith front names.old → are_unknown front lines.now ≡ true → BeginsWith front names.new }
 {
     let mut left = lines;
     while let [line, rest @ ..] = left {
@@ -90,18 +94,36 @@ fn run_lines(
     ending_of(alloc, names, last)
 }
 
-/// Where the program is built, enters its words and runs its lines.
-#[tactic(auto, using(crate::proofs::BuiltLemmas::new_where_built))]
+/// Enters the words of a program that is built, and runs its lines.
+#[tactic(auto, using(crate::proofs::BuiltLemmas::new_where_built, crate::proofs::BuiltLemmas::unknown_where_built))]
+fn run_built(alloc: Global, names: &mut Names, program: &Program) -> Result<Evaluation, NoMemory>
+    requires { are_lines_built names.old [] program.now.lets program.now.last ≡ true }
+
+    ensures ok { IfOk result (λ evaluation. evaluated names.old program.now ≡ (names.new, evaluation)) }
+    ensures kept { BeginsWith names.old names.new }
+{
+    declare_all(alloc, names, program.lets.as_slice())?;
+    run_lines(alloc, names, program.lets.as_slice(), &program.last)
+}
+
+/// Where the program is built, enters its words and runs its lines. Without memory nothing has changed.
 pub(crate) fn run(
     alloc: Global,
     names: &mut Names,
     program: &Program,
 ) -> Result<Evaluation, NoMemory>
-    ensures { IfOk result (λ evaluation. evaluated names.old program.now ≡ (names.new, evaluation)) }
+    ensures ok { IfOk result (λ evaluation. evaluated names.old program.now ≡ (names.new, evaluation)) }
+    ensures err { OnErr result (names.new ≡ names.old) }
 {
     if !is_built(alloc, names, program)? {
         return Ok(Evaluation::NotBuilt);
     }
-    declare_all(alloc, names, program.lets.as_slice())?;
-    run_lines(alloc, names, program.lets.as_slice(), &program.last)
+    let known = names.len();
+    match run_built(alloc, names, program) {
+        Ok(evaluation) => Ok(evaluation),
+        Err(error) => {
+            names.truncate(known);
+            Err(error)
+        }
+    }
 }
