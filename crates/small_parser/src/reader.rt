@@ -1,0 +1,181 @@
+//! An expression that is read from left to right: what waits, and the steps so far.
+
+ghost use Rattle.std.specs.Prelude.{◌≡◌, List, [], ◌∷◌, ◌++◌, IfOk, OnOk, true, false};
+ghost use Rattle.std.specs.Option.{option_map};
+ghost use Rattle.small_syntax.specs.Tree.{Tree};
+ghost use Rattle.small_syntax.specs.Order.{steps_of};
+ghost use Rattle.small_parser.specs.Reading.{State, start, after, with_operand, with_operator, with_sum, closed, finished, shown, product_steps, sum_steps, Goes};
+
+use crate::reserved::is_reserved;
+use item_list::{CloneWhole, Items};
+use ivm_text::NoMemory;
+use small_syntax::{Operator, Step, Steps, Token};
+use std::alloc::Global;
+
+/// What waits for its right side, inside one parenthesis.
+#[derive(Debug, Clone, Copy, PartialEq, Eq)]
+pub struct Pending {
+    /// The `+` or `-` that waits.
+    pub sum: Option<Operator>,
+    /// Whether a `*` waits.
+    pub product: bool,
+}
+
+const NOTHING: Pending = Pending {
+    sum: None,
+    product: false,
+};
+
+#[derive(Debug, Drop)]
+pub struct Reader {
+    /// The steps of what needs not wait.
+    pub steps: Steps,
+    /// What waits outside of each open parenthesis, the innermost last.
+    pub outside: Items<Pending>,
+    pub pending: Pending,
+    pub awaits_operand: bool,
+}
+
+impl Reader {
+    pub fn new(alloc: Global) -> Reader
+        ensures { result ≡ shown start }
+    {
+        Reader {
+            steps: Items::new(alloc),
+            outside: Items::new(alloc),
+            pending: NOTHING,
+            awaits_operand: true,
+        }
+    }
+
+    /// Whether the token may come next.
+    pub fn take(&mut self, alloc: Global, token: &Token) -> Result<bool, NoMemory>
+        ensures { IfOk result (λ goes. (s : State) → self.old ≡ shown s → Goes goes (after s token.now) self.new) }
+    {
+        if self.awaits_operand {
+            self.take_operand(alloc, token)
+        } else {
+            self.take_operator(token)
+        }
+    }
+
+    fn take_operand(&mut self, alloc: Global, token: &Token) -> Result<bool, NoMemory>
+        requires { self.old.awaits_operand ≡ true }
+        ensures { IfOk result (λ goes. (s : State) → self.old ≡ shown s → Goes goes (after s token.now) self.new) }
+    {
+        match token {
+            Token::Number(n) => self.operand(Step::Number(*n)),
+            Token::Word(word) => {
+                if is_reserved(word) {
+                    return Ok(false);
+                }
+                self.operand(Step::Name(word.clone_whole(alloc)?))
+            }
+            Token::Open => {
+                self.outside.push(self.pending)?;
+                self.pending = NOTHING;
+                Ok(true)
+            }
+            _ => Ok(false),
+        }
+    }
+
+    fn take_operator(&mut self, token: &Token) -> Result<bool, NoMemory>
+        requires { self.old.awaits_operand ≡ false }
+        ensures { IfOk result (λ goes. (s : State) → self.old ≡ shown s → Goes goes (after s token.now) self.new) }
+    {
+        match token {
+            Token::Operator(operator) => self.operator(*operator),
+            Token::Close => self.close(),
+            _ => Ok(false),
+        }
+    }
+
+    fn operand(&mut self, step: Step) -> Result<bool, NoMemory>
+        requires { self.old.awaits_operand ≡ true }
+        ensures { IfOk result (λ goes. (s : State) (tree : Tree) → self.old ≡ shown s → steps_of tree ≡ step ∷ [] → Goes goes (with_operand s tree) self.new) }
+    {
+        self.steps.push(step)?;
+        self.end_operand()?;
+        Ok(true)
+    }
+
+    fn operator(&mut self, operator: Operator) -> Result<bool, NoMemory>
+        requires { self.old.awaits_operand ≡ false }
+        ensures { IfOk result (λ goes. (s : State) → self.old ≡ shown s → Goes goes (with_operator s operator) self.new) }
+    {
+        match operator {
+            Operator::Times => {
+                self.pending.product = true;
+                self.awaits_operand = true;
+                Ok(true)
+            }
+            Operator::Plus | Operator::Minus => self.sum(operator),
+        }
+    }
+
+    fn sum(&mut self, operator: Operator) -> Result<bool, NoMemory>
+        requires { self.old.awaits_operand ≡ false }
+        ensures { IfOk result (λ goes. (s : State) → self.old ≡ shown s → Goes goes (with_sum s operator) self.new) }
+    {
+        self.end_sum()?;
+        self.pending.sum = Some(operator);
+        self.awaits_operand = true;
+        Ok(true)
+    }
+
+    fn close(&mut self) -> Result<bool, NoMemory>
+        requires { self.old.awaits_operand ≡ false }
+        ensures { IfOk result (λ goes. (s : State) → self.old ≡ shown s → Goes goes (closed s) self.new) }
+    {
+        self.end_sum()?;
+        match self.outside.pop() {
+            None => Ok(false),
+            Some(pending) => {
+                self.pending = pending;
+                self.end_operand()?;
+                Ok(true)
+            }
+        }
+    }
+
+    /// The steps of an operand are there.
+    fn end_operand(&mut self) -> Result<(), NoMemory>
+        ensures steps { OnOk result (self.new.steps ≡ self.old.steps ++ product_steps self.old.pending.product) }
+        ensures outside { self.new.outside ≡ self.old.outside }
+        ensures pending { OnOk result (self.new.pending ≡ record { sum = self.old.pending.sum; product = false }) }
+        ensures awaits { OnOk result (self.new.awaits_operand ≡ false) }
+    {
+        if self.pending.product {
+            self.steps.push(Step::Apply(Operator::Times))?;
+            self.pending.product = false;
+        }
+        self.awaits_operand = false;
+        Ok(())
+    }
+
+    /// The steps of the right side of a sum are there.
+    fn end_sum(&mut self) -> Result<(), NoMemory>
+        ensures steps { OnOk result (self.new.steps ≡ self.old.steps ++ sum_steps self.old.pending.sum) }
+        ensures outside { self.new.outside ≡ self.old.outside }
+        ensures pending { OnOk result (self.new.pending ≡ record { sum = None; product = self.old.pending.product }) }
+        ensures awaits { self.new.awaits_operand ≡ self.old.awaits_operand }
+    {
+        if let Some(operator) = self.pending.sum {
+            self.steps.push(Step::Apply(operator))?;
+            self.pending.sum = None;
+        }
+        Ok(())
+    }
+
+    /// The steps, where the expression may end here.
+    pub fn end(mut self) -> Result<Option<Steps>, NoMemory>
+        ensures { IfOk result (λ answer. (s : State) → self ≡ shown s → answer ≡ option_map steps_of (finished s)) }
+    {
+        if self.awaits_operand || self.outside.len() > 0 {
+            return Ok(None);
+        }
+        self.end_sum()?;
+        Ok(Some(self.steps))
+    }
+}
