@@ -11,6 +11,8 @@ mod built;
 mod names;
 mod run;
 mod stack;
+#[cfg(test)]
+mod tests;
 mod texts;
 
 pub use names::Names;
