@@ -92,6 +92,7 @@ fn a_new_name_has_no_number(rt: HostRuntime) -> Result<(), NoMemory> {
     names.set_number(&first, -1);
     assert_eq!(rt; names.number_of(&first), Some(-1));
     assert_eq!(rt; names.len(), 1);
+    sends(&names);
     Ok(())
 }
 
@@ -100,3 +101,6 @@ fn word(alloc: Global, text: &str) -> Result<Units, NoMemory>
 {
     Units::from_text(alloc, text)
 }
+
+// names may go to another thread
+fn sends<T: Send>(_value: &T) {}
