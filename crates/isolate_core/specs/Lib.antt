@@ -1,0 +1,2 @@
+pub mod Isolate
+pub mod Replay

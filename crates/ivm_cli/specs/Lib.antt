@@ -1,0 +1,6 @@
+pub mod HostRead
+pub mod Record
+pub mod Report
+pub mod Run
+pub mod Status
+pub mod Words

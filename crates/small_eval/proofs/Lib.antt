@@ -1,0 +1,4 @@
+pub mod NameLemmas
+pub mod BuiltLemmas
+pub mod RunLemmas
+pub mod EvaluationLemmas
