@@ -132,7 +132,19 @@ abbrev pub sum_steps : Option Operator → List Step
 sum_steps None = []
 sum_steps (Some op) = Apply op ∷ []
 
--- it went on to the next state, or there is none
-abbrev pub Goes : Bool → Option State → Reader → Type 0
-Goes true next reader = (state : State) × (next ≡ Some state) × (reader ≡ shown state)
-Goes false next reader = next ≡ None
+-- the reader shows the next state, or there is none
+abbrev pub IsNext : Bool → Option State → Reader → Type 0
+IsNext true next reader = (state : State) × (next ≡ Some state) × (reader ≡ shown state)
+IsNext false next reader = next ≡ None
+
+-- whatever state the old reader shows, the change leads to what the new one shows, or nowhere
+abbrev pub Goes : Reader → Reader → (State → Option State) → Bool → Type 0
+Goes old new change goes = (state : State) → old ≡ shown state → IsNext goes (change state) new
+
+-- the same for an operand of this one step
+abbrev pub GoesWith : Reader → Reader → Step → Bool → Type 0
+GoesWith old new step goes = (tree : Tree) → steps_of tree ≡ step ∷ [] → Goes old new (λ state. with_operand state tree) goes
+
+-- the steps are those of the tree that ends here
+abbrev pub Ends : Reader → Option (List Step) → Type 0
+Ends reader steps = (state : State) → reader ≡ shown state → steps ≡ option_map steps_of (finished state)

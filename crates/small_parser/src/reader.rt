@@ -1,10 +1,7 @@
 //! An expression that is read from left to right: what waits, and the steps so far.
 
-ghost use Rattle.std.specs.Prelude.{◌≡◌, List, [], ◌∷◌, ◌++◌, IfOk, OnOk, true, false};
-ghost use Rattle.std.specs.Option.{option_map};
-ghost use Rattle.small_syntax.specs.Tree.{Tree};
-ghost use Rattle.small_syntax.specs.Order.{steps_of};
-ghost use Rattle.small_parser.specs.Reading.{State, start, after, with_operand, with_operator, with_sum, closed, finished, shown, product_steps, sum_steps, Goes};
+ghost use Rattle.std.specs.Prelude.{◌≡◌, ◌++◌, IfOk, OnOk, true, false};
+ghost use Rattle.small_parser.specs.Reading.{start, after, with_operator, with_sum, closed, shown, product_steps, sum_steps, Goes, GoesWith, Ends};
 
 use crate::reserved::is_reserved;
 use item_list::{CloneWhole, Items};
@@ -50,7 +47,7 @@ impl Reader {
 
     /// Whether the token may come next.
     pub fn take(&mut self, alloc: Global, token: &Token) -> Result<bool, NoMemory>
-        ensures { IfOk result (λ goes. (s : State) → self.old ≡ shown s → Goes goes (after s token.now) self.new) }
+        ensures { IfOk result (Goes self.old self.new (λ s. after s token.now)) }
     {
         if self.awaits_operand {
             self.take_operand(alloc, token)
@@ -61,7 +58,7 @@ impl Reader {
 
     fn take_operand(&mut self, alloc: Global, token: &Token) -> Result<bool, NoMemory>
         requires { self.old.awaits_operand ≡ true }
-        ensures { IfOk result (λ goes. (s : State) → self.old ≡ shown s → Goes goes (after s token.now) self.new) }
+        ensures { IfOk result (Goes self.old self.new (λ s. after s token.now)) }
     {
         match token {
             Token::Number(n) => self.operand(Step::Number(*n)),
@@ -82,7 +79,7 @@ impl Reader {
 
     fn take_operator(&mut self, token: &Token) -> Result<bool, NoMemory>
         requires { self.old.awaits_operand ≡ false }
-        ensures { IfOk result (λ goes. (s : State) → self.old ≡ shown s → Goes goes (after s token.now) self.new) }
+        ensures { IfOk result (Goes self.old self.new (λ s. after s token.now)) }
     {
         match token {
             Token::Operator(operator) => self.operator(*operator),
@@ -93,7 +90,7 @@ impl Reader {
 
     fn operand(&mut self, step: Step) -> Result<bool, NoMemory>
         requires { self.old.awaits_operand ≡ true }
-        ensures { IfOk result (λ goes. (s : State) (tree : Tree) → self.old ≡ shown s → steps_of tree ≡ step ∷ [] → Goes goes (with_operand s tree) self.new) }
+        ensures { IfOk result (GoesWith self.old self.new step) }
     {
         self.steps.push(step)?;
         self.end_operand()?;
@@ -102,7 +99,7 @@ impl Reader {
 
     fn operator(&mut self, operator: Operator) -> Result<bool, NoMemory>
         requires { self.old.awaits_operand ≡ false }
-        ensures { IfOk result (λ goes. (s : State) → self.old ≡ shown s → Goes goes (with_operator s operator) self.new) }
+        ensures { IfOk result (Goes self.old self.new (λ s. with_operator s operator)) }
     {
         match operator {
             Operator::Times => {
@@ -116,7 +113,7 @@ impl Reader {
 
     fn sum(&mut self, operator: Operator) -> Result<bool, NoMemory>
         requires { self.old.awaits_operand ≡ false }
-        ensures { IfOk result (λ goes. (s : State) → self.old ≡ shown s → Goes goes (with_sum s operator) self.new) }
+        ensures { IfOk result (Goes self.old self.new (λ s. with_sum s operator)) }
     {
         self.end_sum()?;
         self.pending.sum = Some(operator);
@@ -126,7 +123,7 @@ impl Reader {
 
     fn close(&mut self) -> Result<bool, NoMemory>
         requires { self.old.awaits_operand ≡ false }
-        ensures { IfOk result (λ goes. (s : State) → self.old ≡ shown s → Goes goes (closed s) self.new) }
+        ensures { IfOk result (Goes self.old self.new closed) }
     {
         self.end_sum()?;
         match self.outside.pop() {
@@ -170,7 +167,7 @@ impl Reader {
 
     /// The steps, where the expression may end here.
     pub fn end(mut self) -> Result<Option<Steps>, NoMemory>
-        ensures { IfOk result (λ answer. (s : State) → self ≡ shown s → answer ≡ option_map steps_of (finished s)) }
+        ensures { IfOk result (Ends self) }
     {
         if self.awaits_operand || self.outside.len() > 0 {
             return Ok(None);

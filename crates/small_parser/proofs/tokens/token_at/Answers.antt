@@ -13,7 +13,7 @@ returns-then-is_ascii_digit-clause-none c =
     let s = c.in-Some in
     none_mapped _ c.map.result c.number.result c.map.ensures.variant
     (digits_or_none c.number.result c.args.text.now s.after.now s.first.now s.ensures.cases.0
-    (sym c.is_ascii_digit.ensures.value ∙ c.if-is_ascii_digit.true) c.number.ensures.only)
+    (sym c.is_ascii_digit.ensures.value ∙ c.if-is_ascii_digit.true) c.number.ensures.none)
 
 pub returns-clause-none : goal.returns-clause-none
 returns-clause-none c =
