@@ -3,15 +3,13 @@ use Rattle.std.proofs.Common.{◌≡◌, Bool, true, false, Option, Some, None, 
 use Rattle.std.specs.Option.{is_some}
 use Rattle.std.proofs.lemmas.Bool.{false≢true}
 use Rattle.std.proofs.lemmas.List.{append-nil, append_assoc, same_from_push}
-use Rattle.small_syntax.specs.Tree.{Tree, number, name, group, binary}
+use Rattle.small_syntax.specs.Tree.{Tree, group}
 use Rattle.small_syntax.specs.Order.{steps_of}
 use Rattle.small_syntax.specs.declared.token.Operator.{Operator}
-use Rattle.small_syntax.specs.declared.token.Operator.TheVariants.{Plus, Minus, Times}
 use Rattle.small_syntax.specs.declared.program.Step.{Step}
-use Rattle.small_syntax.specs.declared.program.Step.TheVariants.{Apply}
 use Rattle.small_parser.specs.declared.reader.Pending.{Pending}
 use Rattle.small_parser.specs.declared.reader.Reader.{Reader}
-use Rattle.small_parser.specs.Reading.{Frame, State, wants, has, nothing, times, total, with_operand, with_times, with_sum, opened, closed, steps_of_sum, steps_of_product, steps_outside, operator_of, pending_of, all_pending, shown, product_steps, sum_steps, IsNext}
+use Rattle.small_parser.specs.Reading.{State, wants, has, nothing, times, total, with_operand, with_times, with_sum, opened, closed, steps_of_sum, steps_of_product, steps_outside, operator_of, pending_of, all_pending, shown, product_steps, sum_steps, IsNext}
 
 make : List Step → List Pending → Pending → Bool → Reader
 make steps outside pending awaits = record { steps = steps; outside = outside; pending = pending; awaits_operand = awaits }

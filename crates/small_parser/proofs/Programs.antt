@@ -1,14 +1,12 @@
 -- From expressions to declarations, ends, programs and texts: what is found is all that there is.
-use Rattle.std.proofs.Common.{◌≡◌, ◌≢◌, ℕ, ◌+◌, ◌<◌, ◌≤◌, Bool, true, false, Option, Some, None, List, [], ◌∷◌, ◌++◌, length, map, refl, sym, ap, subst, ◌∙◌, inl, inr, ◌⊎◌, arith}
+use Rattle.std.proofs.Common.{◌≡◌, ◌≢◌, ℕ, ◌<◌, ◌≤◌, Bool, true, false, Option, Some, None, List, [], ◌∷◌, ◌++◌, length, map, refl, sym, ap, subst, ◌∙◌, inl, inr, ◌⊎◌, arith}
 use Rattle.std.specs.Prelude.{Result, Ok, Err, IfOk, IfSome, IfNone}
 use Rattle.std.specs.Option.{option_map, option_and_then}
 use Rattle.std.proofs.lemmas.Bool.{both_ways}
 use Rattle.std.proofs.lemmas.List.{append-nil, append_assoc, map_push, nil_from_length}
 use Rattle.small_syntax.specs.Reserved.{IsName, is_reserved, reserved, let_word}
 use Rattle.small_syntax.specs.Tree.{Tree, number, name, group, binary, IsExpression, IsSmall, tokens_of, Declaration, Text, tokens_of_let, EndsWith, Spells}
-use Rattle.small_syntax.specs.Spelling.{IsTextOf, IsSmallText}
 use Rattle.small_syntax.specs.Order.{steps_of, let_of, program_of}
-use Rattle.small_syntax.specs.declared.token.Operator.{Operator}
 use Rattle.small_syntax.specs.declared.token.Token.{Token}
 use Rattle.small_syntax.specs.declared.token.Token.TheVariants as token
 use Rattle.small_syntax.specs.declared.program.Step.{Step}
@@ -17,9 +15,9 @@ use Rattle.small_syntax.specs.declared.program.Program.{Program}
 use Rattle.small_parser.specs.Sound.{IsSound, AreSound, IsOnlyTokens, IsNoTokens}
 use Rattle.small_parser.specs.Limits.{is_within}
 use Rattle.small_parser.specs.declared.reader.Reader.{Reader}
-use Rattle.small_parser.specs.Reading.{State, start, after, finished, shown, IsNext}
+use Rattle.small_parser.specs.Reading.{State, start, after, finished, IsNext}
 use Rattle.small_parser.specs.Expressions.{EndsHere, IsExpressionAt, IsOnlyExpression, IsNoExpression, IsDeclarationAt, IsOnlyDeclaration, IsNoDeclaration, IsOnlyEnd, IsNoEnd, IsOnlyProgram, IsNoProgram}
-use Rattle.small_parser.specs.OnlyForm.{IsOnlyForm, IsProgramOf, IsNoSmallText}
+use Rattle.small_parser.specs.OnlyForm.{IsProgramOf, IsNoSmallText}
 use Rattle.small_parser.proofs.Trees.{read, before, tree_read, read_sound}
 use Rattle.small_parser.proofs.Within.{small_within, within_small}
 

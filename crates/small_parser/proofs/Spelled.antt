@@ -1,5 +1,5 @@
 -- The tokens of a text are those that are read from left to right, each as long as it can be.
-use Rattle.std.proofs.Common.{◌≡◌, ℕ, ◌+◌, ◌<◌, ◌≤◌, ◌^◌, Bool, true, false, cond, ◌&&◌, Option, None, Some, List, [], ◌∷◌, ◌++◌, length, refl, sym, ap, subst, ◌∙◌, inl, inr, arith, rules, tests}
+use Rattle.std.proofs.Common.{◌≡◌, ℕ, ◌<◌, ◌^◌, Bool, true, false, Option, None, Some, List, [], ◌∷◌, ◌++◌, length, refl, sym, ap, subst, ◌∙◌, arith, tests}
 use Rattle.std.specs.Prelude.{◌==◌, if◌then◌else◌, IsTrue}
 use Rattle.std.specs.Option.{is_some, IfNone}
 use Rattle.std.specs.List.{list_all}
@@ -13,7 +13,7 @@ use Rattle.small_syntax.specs.Spelling.{bytes_of, AreSpaces, BeginsOtherwise, Is
 use Rattle.small_syntax.specs.declared.token.Operator.TheVariants.{Plus, Minus, Times}
 use Rattle.small_syntax.specs.declared.token.Token.{Token}
 use Rattle.small_syntax.specs.declared.token.Token.TheVariants.{Number, Word, Operator, Open, Close, Equals, Semicolon}
-use Rattle.small_parser.specs.Sound.{IsSound, AreSound, IsFirst, IsNoFirst, IsOnlyTokens, mark_at}
+use Rattle.small_parser.specs.Sound.{IsSound, AreSound, IsFirst, IsOnlyTokens, mark_at}
 use Rattle.small_parser.proofs.Numerals.{all_digits, nonempty}
 
 -- the longest front that passes a test is one

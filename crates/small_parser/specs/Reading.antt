@@ -1,6 +1,6 @@
--- How a tree grows while its tokens are read from left to right, and how a `Reader` shows it. No caller needs this.
+-- How a tree grows while its tokens are read, and how a `Reader` shows it. No caller needs this.
 -- This project's own; docs/SCRIPTS.md, "Small texts".
-use Rattle.std.specs.Prelude.{◌≡◌, ℕ, List, [], ◌∷◌, ◌++◌, Bool, true, false, if◌then◌else◌, Option, None, Some}
+use Rattle.std.specs.Prelude.{◌≡◌, List, [], ◌∷◌, ◌++◌, Bool, true, false, if◌then◌else◌, Option, None, Some}
 use Rattle.std.specs.Option.{is_some, option_map}
 use Rattle.small_syntax.specs.Reserved.{is_reserved}
 use Rattle.small_syntax.specs.Tree.{Tree, number, name, group, binary}
@@ -14,7 +14,7 @@ use Rattle.small_syntax.specs.declared.program.Step.TheVariants.{Apply}
 use Rattle.small_parser.specs.declared.reader.Pending.{Pending}
 use Rattle.small_parser.specs.declared.reader.Reader.{Reader}
 
--- what waits for an operand inside one parenthesis: a sum with its operator, and then a product with its `*`
+-- what waits inside one parenthesis: a sum with its operator, and then a product with its `*`
 pub record Frame : Type 0 where
   pub sum : Option (Tree × Operator)
   pub product : Option Tree
@@ -123,6 +123,12 @@ shown (has sum term outside) = record {
 }
 
 -- ---- what a reader does
+
+abbrev pub without_product : Pending → Pending
+without_product pending = record { sum = pending.sum; product = false }
+
+abbrev pub without_sum : Pending → Pending
+without_sum pending = record { sum = None; product = pending.product }
 
 abbrev pub product_steps : Bool → List Step
 product_steps true = Apply Times ∷ []

@@ -1,7 +1,7 @@
 //! An expression that is read from left to right: what waits, and the steps so far.
 
 ghost use Rattle.std.specs.Prelude.{◌≡◌, ◌++◌, IfOk, OnOk, true, false};
-ghost use Rattle.small_parser.specs.Reading.{start, after, with_operator, with_sum, closed, shown, product_steps, sum_steps, Goes, GoesWith, Ends};
+ghost use Rattle.small_parser.specs.Reading.{start, after, with_operator, with_sum, closed, shown, without_product, without_sum, product_steps, sum_steps, Goes, GoesWith, Ends};
 
 use crate::reserved::is_reserved;
 use item_list::{CloneWhole, Items};
@@ -23,17 +23,21 @@ const NOTHING: Pending = Pending {
     product: false,
 };
 
+/// What was read of one expression.
 #[derive(Debug, Drop)]
 pub struct Reader {
-    /// The steps of what needs not wait.
+    /// The steps of all that waits for nothing.
     pub steps: Steps,
     /// What waits outside of each open parenthesis, the innermost last.
     pub outside: Items<Pending>,
+    /// What waits inside the innermost.
     pub pending: Pending,
+    /// Whether an operand has to come next; else an operator, `)` or the end.
     pub awaits_operand: bool,
 }
 
 impl Reader {
+    /// Nothing is read.
     pub fn new(alloc: Global) -> Reader
         ensures { result ≡ shown start }
     {
@@ -45,7 +49,7 @@ impl Reader {
         }
     }
 
-    /// Whether the token may come next.
+    /// Whether the token may come next. If not, or after an error, the reader is of no more use.
     pub fn take(&mut self, alloc: Global, token: &Token) -> Result<bool, NoMemory>
         ensures { IfOk result (Goes self.old self.new (λ s. after s token.now)) }
     {
@@ -140,7 +144,7 @@ impl Reader {
     fn end_operand(&mut self) -> Result<(), NoMemory>
         ensures steps { OnOk result (self.new.steps ≡ self.old.steps ++ product_steps self.old.pending.product) }
         ensures outside { self.new.outside ≡ self.old.outside }
-        ensures pending { OnOk result (self.new.pending ≡ record { sum = self.old.pending.sum; product = false }) }
+        ensures pending { OnOk result (self.new.pending ≡ without_product self.old.pending) }
         ensures awaits { OnOk result (self.new.awaits_operand ≡ false) }
     {
         if self.pending.product {
@@ -155,7 +159,7 @@ impl Reader {
     fn end_sum(&mut self) -> Result<(), NoMemory>
         ensures steps { OnOk result (self.new.steps ≡ self.old.steps ++ sum_steps self.old.pending.sum) }
         ensures outside { self.new.outside ≡ self.old.outside }
-        ensures pending { OnOk result (self.new.pending ≡ record { sum = None; product = self.old.pending.product }) }
+        ensures pending { OnOk result (self.new.pending ≡ without_sum self.old.pending) }
         ensures awaits { self.new.awaits_operand ≡ self.old.awaits_operand }
     {
         if let Some(operator) = self.pending.sum {

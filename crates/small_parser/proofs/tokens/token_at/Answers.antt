@@ -1,8 +1,7 @@
-use Rattle.std.proofs.Common.{◌≡◌, false, true, sym, ◌∙◌, arith, rules}
-use Rattle.std.specs.Char.{is_ascii_digit}
+use Rattle.std.proofs.Common.{◌≡◌, false, sym, ◌∙◌, arith}
 use Rattle.std.proofs.lemmas.Grind.{common_steps}
 use Rattle.small_syntax.specs.Reserved.{is_letter}
-use Rattle.small_parser.proofs.Spelled.{digits_none, mark_none, nothing_first, none_mapped, digits_or_none, mark_or_none}
+use Rattle.small_parser.proofs.Spelled.{nothing_first, none_mapped, digits_or_none, mark_or_none}
 use Rattle.small_parser.proofs.tokens.token_at.Goals as goal
 
 pub returns-in_default-clause-none : goal.returns-in_default-clause-none

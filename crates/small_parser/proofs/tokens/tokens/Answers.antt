@@ -1,4 +1,4 @@
-use Rattle.std.proofs.Common.{◌≡◌, ◌∷◌, ap, subst, sym, ◌∙◌, arith}
+use Rattle.std.proofs.Common.{◌∷◌, ap, subst, sym, ◌∙◌}
 use Rattle.small_parser.proofs.Spelled.{Lexed, first_shorter, lexed_space, lexed_token, lexed_whole, lexed_stuck}
 use Rattle.std.proofs.lemmas.List.{nil_from_length}
 use Rattle.small_parser.specs.Sound.{IsFirst}
