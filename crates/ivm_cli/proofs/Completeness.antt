@@ -5,9 +5,9 @@ use Rattle.std.specs.Io.KnownBytes.{IsAtEnd}
 use Rattle.ivm_io.specs.Transfers.{Reads}
 use Rattle.task_history.specs.declared.record.Record.{Record}
 use Rattle.host_script.specs.HostText.{host_of}
-use Rattle.host_script.specs.declared.HostScript.{HostScript}
-use Rattle.host_script.specs.declared.HostFault.TheVariants.{At}
-use Rattle.host_script.specs.declared.HostKind.{HostKind}
+use Rattle.host_script.specs.declared.script.HostScript.{HostScript}
+use Rattle.host_script.specs.declared.fault.HostFault.TheVariants.{At}
+use Rattle.host_script.specs.declared.fault.HostKind.{HostKind}
 use Rattle.ivm_cli.proofs.HostLaws.{host_of_long}
 use Rattle.ivm_cli.specs.Run.{Asks, Ends, Whole, most}
 use Rattle.ivm_cli.specs.declared.status.Status.{Status}

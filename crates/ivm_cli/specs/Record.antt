@@ -10,11 +10,11 @@ use Rattle.task_history.specs.declared.task.TaskKind.TheVariants as kind
 use Rattle.task_history.specs.declared.record.Entry.{Entry}
 use Rattle.task_history.specs.declared.record.Record.{Record}
 use Rattle.isolate_core.specs.Replay.{Kept, Replay}
-use Rattle.host_script.specs.declared.HostScript.{HostScript}
-use Rattle.host_script.specs.declared.IsolateDecl.{IsolateDecl}
-use Rattle.host_script.specs.declared.Command.{Command}
-use Rattle.host_script.specs.declared.What.{What}
-use Rattle.host_script.specs.declared.What.TheVariants.{Declare, Context, Eval}
+use Rattle.host_script.specs.declared.script.HostScript.{HostScript}
+use Rattle.host_script.specs.declared.script.IsolateDecl.{IsolateDecl}
+use Rattle.host_script.specs.declared.script.Command.{Command}
+use Rattle.host_script.specs.declared.script.What.{What}
+use Rattle.host_script.specs.declared.script.What.TheVariants.{Declare, Context, Eval}
 
 -- the task of call n
 abbrev pub task : ℕ → ℕ → TaskKind → Task
