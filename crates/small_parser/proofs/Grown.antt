@@ -3,15 +3,13 @@ use Rattle.std.proofs.Common.{◌≡◌, Bool, true, false, Option, Some, None, 
 use Rattle.std.specs.Option.{is_some}
 use Rattle.std.proofs.lemmas.Bool.{false≢true}
 use Rattle.std.proofs.lemmas.List.{append-nil, append_assoc, same_from_push}
-use Rattle.small_syntax.specs.Tree.{Tree, number, name, group, binary}
+use Rattle.small_syntax.specs.Tree.{Tree, group}
 use Rattle.small_syntax.specs.Order.{steps_of}
 use Rattle.small_syntax.specs.declared.token.Operator.{Operator}
-use Rattle.small_syntax.specs.declared.token.Operator.TheVariants.{Plus, Minus, Times}
 use Rattle.small_syntax.specs.declared.program.Step.{Step}
-use Rattle.small_syntax.specs.declared.program.Step.TheVariants.{Apply}
 use Rattle.small_parser.specs.declared.reader.Pending.{Pending}
 use Rattle.small_parser.specs.declared.reader.Reader.{Reader}
-use Rattle.small_parser.specs.Reading.{Frame, State, wants, has, nothing, times, total, with_operand, with_times, with_sum, opened, closed, steps_of_sum, steps_of_product, steps_outside, operator_of, pending_of, all_pending, shown, product_steps, sum_steps, Goes}
+use Rattle.small_parser.specs.Reading.{State, wants, has, nothing, times, total, with_operand, with_times, with_sum, opened, closed, steps_of_sum, steps_of_product, steps_outside, operator_of, pending_of, all_pending, shown, product_steps, sum_steps, IsNext}
 
 make : List Step → List Pending → Pending → Bool → Reader
 make steps outside pending awaits = record { steps = steps; outside = outside; pending = pending; awaits_operand = awaits }
@@ -36,7 +34,7 @@ total_steps base (Some sum) term = simp append_assoc
 
 pub operand_goes : (old new : Reader) (xs : List Step) (s : State) (tree : Tree) → old.awaits_operand ≡ true → old ≡ shown s → steps_of tree ≡ xs
     → new.steps ≡ (old.steps ++ xs) ++ product_steps old.pending.product → new.outside ≡ old.outside
-    → new.pending ≡ record { sum = old.pending.sum; product = false } → new.awaits_operand ≡ false → Goes true (with_operand s tree) new
+    → new.pending ≡ record { sum = old.pending.sum; product = false } → new.awaits_operand ≡ false → IsNext true (with_operand s tree) new
 operand_goes old new xs (wants frame outside) tree waits e is steps around pending awaits = (
   has frame.sum (times frame.product tree) outside,
   refl,
@@ -54,7 +52,7 @@ operand_goes old new xs (has sum term outside) tree waits e is steps around pend
 
 pub open_goes : (old new : Reader) (s : State) → old.awaits_operand ≡ true → old ≡ shown s
     → new.steps ≡ old.steps → new.outside ≡ old.outside ++ old.pending ∷ [] → new.pending ≡ pending_of nothing → new.awaits_operand ≡ true
-    → Goes true (opened s) new
+    → IsNext true (opened s) new
 open_goes old new (wants frame outside) waits e steps around pending awaits = (
   wants nothing (frame ∷ outside),
   refl,
@@ -69,7 +67,7 @@ open_goes old new (has sum term outside) waits e steps around pending awaits =
 
 pub times_goes : (old new : Reader) (s : State) → old.awaits_operand ≡ false → old ≡ shown s
     → new.steps ≡ old.steps → new.outside ≡ old.outside → new.pending ≡ record { sum = old.pending.sum; product = true } → new.awaits_operand ≡ true
-    → Goes true (with_times s) new
+    → IsNext true (with_times s) new
 times_goes old new (wants frame outside) waits e steps around pending awaits =
     absurd (false≢true (sym waits ∙ ap (λ r. r.awaits_operand) e))
 times_goes old new (has sum term outside) waits e steps around pending awaits = (
@@ -87,7 +85,7 @@ times_goes old new (has sum term outside) waits e steps around pending awaits = 
 
 pub sum_goes : (old new : Reader) (s : State) (op : Operator) → old.awaits_operand ≡ false → old ≡ shown s
     → new.steps ≡ old.steps ++ sum_steps old.pending.sum → new.outside ≡ old.outside
-    → new.pending ≡ record { sum = Some op; product = old.pending.product } → new.awaits_operand ≡ true → Goes true (with_sum s op) new
+    → new.pending ≡ record { sum = Some op; product = old.pending.product } → new.awaits_operand ≡ true → IsNext true (with_sum s op) new
 sum_goes old new (wants frame outside) op waits e steps around pending awaits =
     absurd (false≢true (sym waits ∙ ap (λ r. r.awaits_operand) e))
 sum_goes old new (has sum term outside) op waits e steps around pending awaits = (
@@ -106,7 +104,7 @@ sum_goes old new (has sum term outside) op waits e steps around pending awaits =
 
 pub close_goes : (old new : Reader) (rest : List Pending) (last : Pending) (s : State) → old.awaits_operand ≡ false → old ≡ shown s
     → old.outside ≡ rest ++ last ∷ [] → new.steps ≡ (old.steps ++ sum_steps old.pending.sum) ++ product_steps last.product → new.outside ≡ rest
-    → new.pending ≡ record { sum = last.sum; product = false } → new.awaits_operand ≡ false → Goes true (closed s) new
+    → new.pending ≡ record { sum = last.sum; product = false } → new.awaits_operand ≡ false → IsNext true (closed s) new
 close_goes old new rest last (wants frame outside) waits e popped steps around pending awaits =
     absurd (false≢true (sym waits ∙ ap (λ r. r.awaits_operand) e))
 close_goes old new rest last (has sum term []) waits e popped steps around pending awaits =

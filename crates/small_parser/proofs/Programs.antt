@@ -1,25 +1,23 @@
 -- From expressions to declarations, ends, programs and texts: what is found is all that there is.
-use Rattle.std.proofs.Common.{◌≡◌, ◌≢◌, ℕ, ◌+◌, ◌<◌, ◌≤◌, Bool, true, false, Option, Some, None, List, [], ◌∷◌, ◌++◌, length, map, refl, sym, ap, subst, ◌∙◌, inl, inr, ◌⊎◌, arith}
+use Rattle.std.proofs.Common.{◌≡◌, ◌≢◌, ℕ, ◌<◌, ◌≤◌, Bool, true, false, Option, Some, None, List, [], ◌∷◌, ◌++◌, length, map, refl, sym, ap, subst, ◌∙◌, inl, inr, ◌⊎◌, arith}
 use Rattle.std.specs.Prelude.{Result, Ok, Err, IfOk, IfSome, IfNone}
 use Rattle.std.specs.Option.{option_map, option_and_then}
 use Rattle.std.proofs.lemmas.Bool.{both_ways}
 use Rattle.std.proofs.lemmas.List.{append-nil, append_assoc, map_push, nil_from_length}
 use Rattle.small_syntax.specs.Reserved.{IsName, is_reserved, reserved, let_word}
 use Rattle.small_syntax.specs.Tree.{Tree, number, name, group, binary, IsExpression, IsSmall, tokens_of, Declaration, Text, tokens_of_let, EndsWith, Spells}
-use Rattle.small_syntax.specs.Spelling.{IsTextOf, IsSmallText}
 use Rattle.small_syntax.specs.Order.{steps_of, let_of, program_of}
-use Rattle.small_syntax.specs.declared.token.Operator.{Operator}
 use Rattle.small_syntax.specs.declared.token.Token.{Token}
 use Rattle.small_syntax.specs.declared.token.Token.TheVariants as token
 use Rattle.small_syntax.specs.declared.program.Step.{Step}
 use Rattle.small_syntax.specs.declared.program.Let.{Let}
 use Rattle.small_syntax.specs.declared.program.Program.{Program}
-use Rattle.small_parser.specs.Sound.{IsSound, AreSound}
+use Rattle.small_parser.specs.Sound.{IsSound, AreSound, IsOnlyTokens, IsNoTokens}
 use Rattle.small_parser.specs.Limits.{is_within}
 use Rattle.small_parser.specs.declared.reader.Reader.{Reader}
-use Rattle.small_parser.specs.Reading.{State, start, after, finished, shown, Goes}
+use Rattle.small_parser.specs.Reading.{State, start, after, finished, IsNext}
 use Rattle.small_parser.specs.Expressions.{EndsHere, IsExpressionAt, IsOnlyExpression, IsNoExpression, IsDeclarationAt, IsOnlyDeclaration, IsNoDeclaration, IsOnlyEnd, IsNoEnd, IsOnlyProgram, IsNoProgram}
-use Rattle.small_parser.specs.OnlyForm.{IsOnlyForm, IsProgramOf, IsNoSmallText}
+use Rattle.small_parser.specs.OnlyForm.{IsProgramOf, IsNoSmallText}
 use Rattle.small_parser.proofs.Trees.{read, before, tree_read, read_sound}
 use Rattle.small_parser.proofs.Within.{small_within, within_small}
 
@@ -74,16 +72,10 @@ read_end s (t ∷ rest) h = rw h refl
 
 -- the next token may not come
 pub stuck_expression : (tokens rest more : List Token) (t : Token) (s : State) (goes : Bool) (reader : Reader) → read start tokens ≡ read s rest → rest ≡ t ∷ more
-    → t ≢ token.Semicolon → goes ≡ false → Goes goes (after s t) reader → IsNoExpression tokens
+    → t ≢ token.Semicolon → goes ≡ false → IsNext goes (after s t) reader → IsNoExpression tokens
 stuck_expression tokens rest more t s goes reader reads front apart stops goes_on =
-    let none : after s t ≡ None = subst (λ b. Goes b (after s t) reader) stops goes_on in
+    let none : after s t ≡ None = subst (λ b. IsNext b (after s t) reader) stops goes_on in
     no_expression tokens (reads ∙ ap (read s) front ∙ read_more s t more apart ∙ ap (λ o. option_and_then (λ next. read next more) o) none)
-
-pub next_expression : (tokens rest more : List Token) (t : Token) (s : State) (goes : Bool) (reader : Reader) → read start tokens ≡ read s rest → rest ≡ t ∷ more
-    → t ≢ token.Semicolon → goes ≡ true → Goes goes (after s t) reader → (next : State) × (reader ≡ shown next) × (read start tokens ≡ read next more)
-next_expression tokens rest more t s goes reader reads front apart came goes_on =
-    let (next, is, shows) = subst (λ b. Goes b (after s t) reader) came goes_on in
-    (next, shows, reads ∙ ap (read s) front ∙ read_more s t more apart ∙ ap (λ o. option_and_then (λ n. read n more) o) is)
 
 pub found_expression : (tokens rest : List Token) (s : State) (steps : List Step) → is_within 0 0 tokens ≡ true → AreSound tokens
     → read start tokens ≡ read s rest → EndsHere rest → Some steps ≡ option_map steps_of (finished s) → IsOnlyExpression tokens steps rest
@@ -359,40 +351,35 @@ spells_sound (d ∷ lets) last tokens h =
     let value = sound_both (tokens_of d.value) (token.Semicolon ∷ h.2) (tree_sound d.value h.1.formed) (tt, spells_sound lets last h.2 h.4) in
     subst AreSound (sym (h.3 ∙ line_tokens d h.2)) (let_sound, ((h.0.some, h.0.letters), (tt, value)))
 
-pub program_found : (bytes : List ℕ) (tokens : List Token) (program : Program) → IsTextOf tokens bytes
-    → ((others : List Token) → AreSound others → IsTextOf others bytes → others ≡ tokens) → IsOnlyProgram tokens program → IsProgramOf bytes program
-program_found bytes tokens program spelled one found = record {
+pub program_found : (bytes : List ℕ) (tokens : List Token) (program : Program) → IsOnlyTokens tokens bytes → IsOnlyProgram tokens program → IsProgramOf bytes program
+program_found bytes tokens program lexed found = record {
   text = found.text;
   form = record {
-    formed = record { tokens = tokens; spelled = spelled; formed = found.found };
+    formed = record { tokens = tokens; spelled = lexed.spelled; formed = found.found };
     only = λ other h.
-        let same = one h.tokens (spells_sound other.lets other.last h.tokens h.formed) h.spelled in
+        let same = lexed.only h.tokens (spells_sound other.lets other.last h.tokens h.formed) h.spelled in
         found.only other (subst (Spells other.lets other.last) same h.formed);
   };
   carried = found.carried;
 }
 
-pub no_tokens : (bytes : List ℕ) → ((others : List Token) → AreSound others → IsTextOf others bytes → ⊥) → IsNoSmallText bytes
+pub no_tokens : (bytes : List ℕ) → IsNoTokens bytes → IsNoSmallText bytes
 no_tokens bytes none text h = none h.tokens (spells_sound text.lets text.last h.tokens h.formed) h.spelled
 
-pub no_form : (bytes : List ℕ) (tokens : List Token) → ((others : List Token) → AreSound others → IsTextOf others bytes → others ≡ tokens)
-    → IsNoProgram tokens → IsNoSmallText bytes
-no_form bytes tokens one none text h =
-    let same = one h.tokens (spells_sound text.lets text.last h.tokens h.formed) h.spelled in
+no_form : (bytes : List ℕ) (tokens : List Token) → IsOnlyTokens tokens bytes → IsNoProgram tokens → IsNoSmallText bytes
+no_form bytes tokens lexed none text h =
+    let same = lexed.only h.tokens (spells_sound text.lets text.last h.tokens h.formed) h.spelled in
     none text (subst (Spells text.lets text.last) same h.formed)
 
 -- what the tokens answer is what the bytes do
-pub found_answer : {E : Type 0} (r : Result (Option Program) E) (bytes : List ℕ) (tokens slice : List Token) → slice ≡ tokens → IsTextOf tokens bytes
-    → ((others : List Token) → AreSound others → IsTextOf others bytes → others ≡ tokens)
+pub found_answer : {E : Type 0} (r : Result (Option Program) E) (bytes : List ℕ) (tokens slice : List Token) → slice ≡ tokens → IsOnlyTokens tokens bytes
     → IfOk r (λ answer. IfSome answer (λ program. IsOnlyProgram slice program)) → IfOk r (λ answer. IfSome answer (λ program. IsProgramOf bytes program))
-found_answer (Err e) bytes tokens slice same spelled one h = h
-found_answer (Ok None) bytes tokens slice same spelled one h = h
-found_answer (Ok (Some program)) bytes tokens slice same spelled one h =
-    program_found bytes tokens program spelled one (subst (λ ts. IsOnlyProgram ts program) same h)
+found_answer (Err e) bytes tokens slice same lexed h = h
+found_answer (Ok None) bytes tokens slice same lexed h = h
+found_answer (Ok (Some program)) bytes tokens slice same lexed h = program_found bytes tokens program lexed (subst (λ ts. IsOnlyProgram ts program) same h)
 
-pub none_answer : {E : Type 0} (r : Result (Option Program) E) (bytes : List ℕ) (tokens slice : List Token) → slice ≡ tokens
-    → ((others : List Token) → AreSound others → IsTextOf others bytes → others ≡ tokens)
+pub none_answer : {E : Type 0} (r : Result (Option Program) E) (bytes : List ℕ) (tokens slice : List Token) → slice ≡ tokens → IsOnlyTokens tokens bytes
     → IfOk r (λ answer. IfNone answer (IsNoProgram slice)) → IfOk r (λ answer. IfNone answer (IsNoSmallText bytes))
-none_answer (Err e) bytes tokens slice same one h = h
-none_answer (Ok None) bytes tokens slice same one h = no_form bytes tokens one (subst IsNoProgram same h)
-none_answer (Ok (Some program)) bytes tokens slice same one h = h
+none_answer (Err e) bytes tokens slice same lexed h = h
+none_answer (Ok None) bytes tokens slice same lexed h = no_form bytes tokens lexed (subst IsNoProgram same h)
+none_answer (Ok (Some program)) bytes tokens slice same lexed h = h

@@ -1,5 +1,5 @@
 -- The tokens of a text are those that are read from left to right, each as long as it can be.
-use Rattle.std.proofs.Common.{◌≡◌, ℕ, ◌+◌, ◌<◌, ◌≤◌, ◌^◌, Bool, true, false, cond, ◌&&◌, Option, None, Some, List, [], ◌∷◌, ◌++◌, length, refl, sym, ap, subst, ◌∙◌, inl, inr, arith, rules, tests}
+use Rattle.std.proofs.Common.{◌≡◌, ℕ, ◌<◌, ◌^◌, Bool, true, false, Option, None, Some, List, [], ◌∷◌, ◌++◌, length, refl, sym, ap, subst, ◌∙◌, arith, tests}
 use Rattle.std.specs.Prelude.{◌==◌, if◌then◌else◌, IsTrue}
 use Rattle.std.specs.Option.{is_some, IfNone}
 use Rattle.std.specs.List.{list_all}
@@ -13,7 +13,7 @@ use Rattle.small_syntax.specs.Spelling.{bytes_of, AreSpaces, BeginsOtherwise, Is
 use Rattle.small_syntax.specs.declared.token.Operator.TheVariants.{Plus, Minus, Times}
 use Rattle.small_syntax.specs.declared.token.Token.{Token}
 use Rattle.small_syntax.specs.declared.token.Token.TheVariants.{Number, Word, Operator, Open, Close, Equals, Semicolon}
-use Rattle.small_parser.specs.Sound.{IsSound, AreSound, IsFirst, mark_at}
+use Rattle.small_parser.specs.Sound.{IsSound, AreSound, IsFirst, IsOnlyTokens, mark_at}
 use Rattle.small_parser.proofs.Numerals.{all_digits, nonempty}
 
 -- the longest front that passes a test is one
@@ -155,7 +155,7 @@ first_same text Semicolon u r s ft fu e = marks text Semicolon u r s ft fu (mark
 
 -- where digits begin, a token is a number
 pub digits_none : (text after : List ℕ) (b : ℕ) → text ≡ b ∷ after → is_ascii_digit b ≡ true
-    → ((n : ℕ) (rest : List ℕ) → n < 2 ^ 53 → text ≡ decimal n ++ rest → BeginsOtherwise is_ascii_digit rest → ⊥)
+    → ((n : ℕ) (rest : List ℕ) → IsFirst text (Number n) rest → ⊥)
     → (token : Token) (rest : List ℕ) → IsFirst text token rest → ⊥
 digits_none text after b e is none token rest first = by_token token first (sym (digit_sort (head_of text token rest first)))
   where
@@ -167,7 +167,7 @@ digits_none text after b e is none token rest first = by_token token first (sym 
         sym here ∙ ap sort_at same ∙ h.sort
 
     by_token : (token : Token) → IsFirst text token rest → sort_of token ≡ digit → ⊥
-    by_token (Number n) first s = none n rest first.sound first.whole first.longest
+    by_token (Number n) first s = none n rest first
     by_token (Word w) first s = cc
     by_token (Operator op) first s = cc
     by_token Open first s = cc
@@ -196,7 +196,7 @@ nothing_first text e token rest first =
     let w : [] ≡ h.byte ∷ h.tail = sym (nil_from_length text e) ∙ h.whole in cc
 
 pub digits_or_none : {R : Type 0} (r : Option R) (text after : List ℕ) (b : ℕ) → text ≡ b ∷ after → is_ascii_digit b ≡ true
-    → IfNone r ((n : ℕ) (rest : List ℕ) → n < 2 ^ 53 → text ≡ decimal n ++ rest → BeginsOtherwise is_ascii_digit rest → ⊥)
+    → IfNone r ((n : ℕ) (rest : List ℕ) → IsFirst text (Number n) rest → ⊥)
     → IfNone r ((token : Token) (rest : List ℕ) → IsFirst text token rest → ⊥)
 digits_or_none None text after b e is none = digits_none text after b e is none
 digits_or_none (Some r) text after b e is none = none
@@ -317,6 +317,9 @@ pub lexed_only : (bytes : List ℕ) (done : List Token) → Lexed bytes done [] 
 lexed_only bytes done lexed tokens s h =
     let (more, e, sound, spelled) = lexed.only tokens s h in
     e ∙ ap (λ (ts : List Token). done ++ ts) (at_end more sound spelled) ∙ append-nil done
+
+pub lexed_whole : (bytes : List ℕ) (done : List Token) → Lexed bytes done [] → IsOnlyTokens done bytes
+lexed_whole bytes done lexed = record { spelled = lexed_all bytes done lexed; sound = lexed.sound; only = lexed_only bytes done lexed }
 
 -- where no token is first, and no space, there are no tokens
 pub lexed_stuck : (bytes : List ℕ) (done : List Token) (c : ℕ) (text : List ℕ) → Lexed bytes done (c ∷ text) → (c ≡ 32 → ⊥)

@@ -1,10 +1,9 @@
 -- Reading the tokens of a tree gives that tree, and what is read is the tokens of a tree.
-use Rattle.std.proofs.Common.{◌≡◌, ℕ, ◌+◌, ◌-◌, ◌^◌, ◌<◌, ◌≤◌, Bool, true, false, Option, Some, None, List, [], ◌∷◌, ◌++◌, refl, sym, ap, subst, ◌∙◌, inl, inr, arith}
-use Rattle.std.specs.Prelude.{if◌then◌else◌, max}
+use Rattle.std.proofs.Common.{◌≡◌, ℕ, ◌<◌, ◌≤◌, Bool, true, false, Option, Some, None, List, [], ◌∷◌, ◌++◌, refl, sym, ap, subst, ◌∙◌, arith}
+use Rattle.std.specs.Prelude.{if◌then◌else◌}
 use Rattle.std.specs.Option.{option_map, option_and_then}
-use Rattle.std.proofs.lemmas.Bool.{cases_Bool}
 use Rattle.std.proofs.lemmas.List.{append-nil, append_assoc}
-use Rattle.small_syntax.specs.Reserved.{IsName, is_reserved}
+use Rattle.small_syntax.specs.Reserved.{is_reserved}
 use Rattle.small_syntax.specs.Tree.{Tree, number, name, group, binary, binding, level, IsExpression, tokens_of}
 use Rattle.small_syntax.specs.declared.token.Operator.{Operator}
 use Rattle.small_syntax.specs.declared.token.Operator.TheVariants.{Plus, Minus, Times}
@@ -12,7 +11,7 @@ use Rattle.small_syntax.specs.declared.token.Token.{Token}
 use Rattle.small_syntax.specs.declared.token.Token.TheVariants as token
 use Rattle.small_parser.specs.Sound.{IsSound, AreSound}
 use Rattle.small_parser.specs.Expressions.{EndsHere}
-use Rattle.small_parser.specs.Reading.{Frame, State, wants, has, nothing, start, times, total, with_operand, with_times, with_sum, with_operator, opened, closed, after, finished}
+use Rattle.small_parser.specs.Reading.{Frame, State, wants, has, nothing, start, times, total, with_operand, with_times, with_sum, opened, closed, after, finished}
 
 abbrev pub before : List Token → Tree → Tree × List Token
 before rest tree = (tree, rest)

@@ -1,42 +1,13 @@
--- Words of letters: their units are their bytes.
-use Rattle.std.proofs.Common.{◌≡◌, ℕ, ◌+◌, ◌-◌, ◌*◌, ◌^◌, ◌<◌, ◌≤◌, Bool, true, false, cond, not, eqb, Option, Some, None, List, [], ◌∷◌, ◌++◌, length, take, get_or, refl, sym, ap, subst, ◌∙◌, arith}
-use Rattle.std.specs.List.{list_all, flat_map}
+-- A word compared with bytes, unit by unit.
+use Rattle.std.proofs.Common.{◌≡◌, ℕ, ◌+◌, ◌<◌, ◌≤◌, true, false, not, eqb, Option, Some, List, length, take, get_or, sym, ap, subst, ◌∙◌, arith}
 use Rattle.std.specs.List.{slice_get}
 use Rattle.std.specs.Option.{option_eq}
-use Rattle.std.specs.Str.{IsAscii, chars, bytes_eq}
-use Rattle.std.specs.Char.Escape.{encode_utf16}
-use Rattle.std.proofs.lemmas.Bool.{and_parts, false_from_ne_true}
+use Rattle.std.specs.Str.{bytes_eq}
+use Rattle.std.proofs.lemmas.Bool.{false_from_ne_true}
 use Rattle.std.proofs.lemmas.List.{take_all, take_more_same}
 use Rattle.std.proofs.lemmas.Option.{slice_get-get_or}
 use Rattle.std.proofs.lemmas.Slice.Eq.{bytes_eq-Decides}
-use Rattle.std.proofs.lemmas.Str.{chars-IsAscii}
-use Rattle.std.proofs.lemmas.Str.Ascii.{IsAscii-nil, IsAscii-cons}
 use Rattle.std.proofs.lemmas.Bool.Decides.{nat_tests}
-use Rattle.ivm_text.specs.Text.{units_of, encode_utf16_all}
-use Rattle.small_syntax.specs.Reserved.{is_letter}
-
-below : (c : ℕ) → is_letter c ≡ true → c < 128
-below c h = grind (arith, nat_tests)
-
-letters_ascii : (word : List ℕ) → list_all is_letter word ≡ true → IsAscii word
-letters_ascii [] h = IsAscii-nil
-letters_ascii (c ∷ word) h =
-    let parts = and_parts (is_letter c) (list_all is_letter word) h in
-    IsAscii-cons c word (below c parts.0) (letters_ascii word parts.1)
-
-one_unit : (c : ℕ) → c < 128 → encode_utf16 c ≡ c ∷ []
-one_unit c h = grind (arith, nat_tests)
-
-units_same : (word : List ℕ) → list_all is_letter word ≡ true → encode_utf16_all word ≡ word
-units_same [] h = refl
-units_same (c ∷ word) h =
-    let parts = and_parts (is_letter c) (list_all is_letter word) h in
-    rw (one_unit c (below c parts.0), units_same word parts.1) refl
-
-pub letters_units : (word : List ℕ) → list_all is_letter word ≡ true → units_of word ≡ word
-letters_units word h = ap encode_utf16_all (chars-IsAscii word (letters_ascii word h)) ∙ units_same word h
-
--- ---- comparing unit by unit
 
 -- the unit at a place isn't the byte there
 pub differs_at : (bytes word : List ℕ) (i : ℕ) (o : Option ℕ) → i < length bytes → o ≡ slice_get word i

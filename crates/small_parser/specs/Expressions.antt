@@ -1,9 +1,8 @@
 -- Expressions and texts at the front of tokens, and that there is no other.
 -- This project's own; docs/SCRIPTS.md, "Small texts".
-use Rattle.std.specs.Prelude.{◌≡◌, List, [], ◌∷◌, ◌++◌, Option, None, Some}
+use Rattle.std.specs.Prelude.{◌≡◌, ℕ, List, [], ◌∷◌, ◌++◌, Option}
 use Rattle.std.specs.Option.{option_map}
-use Rattle.std.specs.Borrow.{Bor}
-use Rattle.small_syntax.specs.Reserved.{IsName, let_word}
+use Rattle.small_syntax.specs.Reserved.{IsName}
 use Rattle.small_syntax.specs.Tree.{Tree, IsSmall, tokens_of, Declaration, Text, EndsWith, Spells}
 use Rattle.small_syntax.specs.Order.{steps_of, let_of, program_of}
 use Rattle.small_syntax.specs.declared.token.Token.{Token}
@@ -17,7 +16,7 @@ abbrev pub EndsHere : List Token → Type 0
 EndsHere [] = Unit {0}
 EndsHere (token ∷ tokens) = token ≡ Semicolon
 
--- the tokens are an expression within the limits, up to the end or the first semicolon, and the rest
+-- the tokens are an expression within the limits, up to the end or a semicolon, and the rest
 pub record IsExpressionAt (tokens : List Token) (tree : Tree) (rest : List Token) : Type 0 where
   pub small : IsSmall tree
   pub spelled : tokens ≡ tokens_of tree ++ rest
@@ -32,6 +31,10 @@ pub record IsOnlyExpression (tokens : List Token) (steps : List Step) (rest : Li
 
 abbrev pub IsNoExpression : List Token → Type 0
 IsNoExpression tokens = (tree : Tree) (rest : List Token) → IsExpressionAt tokens tree rest → ⊥
+
+-- the tokens are this word, `=` and the rest
+abbrev pub IsNamed : List Token → List ℕ → List Token → Type 0
+IsNamed tokens word rest = tokens ≡ Word word ∷ Equals ∷ rest
 
 -- the tokens are `NAME = VALUE;` and the rest
 pub record IsDeclarationAt (tokens : List Token) (d : Declaration) (rest : List Token) : Type 0 where

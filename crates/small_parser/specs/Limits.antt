@@ -1,10 +1,10 @@
 -- The limits of an expression, counted token by token. No caller needs this.
 -- This project's own; docs/SCRIPTS.md, "Small texts".
-use Rattle.std.specs.Prelude.{ℕ, ◌+◌, ◌-◌, List, [], ◌∷◌, Bool, true, false, ◌&&◌, nat_lt}
+use Rattle.std.specs.Prelude.{ℕ, ◌+◌, ◌-◌, List, [], ◌∷◌, Bool, true, ◌&&◌, nat_lt}
 use Rattle.small_syntax.specs.declared.token.Token.{Token}
 use Rattle.small_syntax.specs.declared.token.Token.TheVariants.{Number, Word, Operator, Open, Close, Equals, Semicolon}
 
--- after so many operators, with so many parentheses open: up to the first semicolon neither grows beyond its limit
+-- after so many operators and inside so many parentheses: neither grows beyond its limit up to the first semicolon
 abbrev pub is_within : ℕ → ℕ → List Token → Bool
 is_within operators inside [] = true
 is_within operators inside (Number n ∷ tokens) = is_within operators inside tokens

@@ -1,6 +1,6 @@
--- How a tree grows while its tokens are read from left to right, and how a `Reader` shows it. No caller needs this.
+-- How a tree grows while its tokens are read, and how a `Reader` shows it. No caller needs this.
 -- This project's own; docs/SCRIPTS.md, "Small texts".
-use Rattle.std.specs.Prelude.{◌≡◌, ℕ, List, [], ◌∷◌, ◌++◌, Bool, true, false, if◌then◌else◌, Option, None, Some}
+use Rattle.std.specs.Prelude.{◌≡◌, List, [], ◌∷◌, ◌++◌, Bool, true, false, if◌then◌else◌, Option, None, Some}
 use Rattle.std.specs.Option.{is_some, option_map}
 use Rattle.small_syntax.specs.Reserved.{is_reserved}
 use Rattle.small_syntax.specs.Tree.{Tree, number, name, group, binary}
@@ -14,7 +14,7 @@ use Rattle.small_syntax.specs.declared.program.Step.TheVariants.{Apply}
 use Rattle.small_parser.specs.declared.reader.Pending.{Pending}
 use Rattle.small_parser.specs.declared.reader.Reader.{Reader}
 
--- what waits for an operand inside one parenthesis: a sum with its operator, and then a product with its `*`
+-- what waits inside one parenthesis: a sum with its operator, and then a product with its `*`
 pub record Frame : Type 0 where
   pub sum : Option (Tree × Operator)
   pub product : Option Tree
@@ -124,6 +124,12 @@ shown (has sum term outside) = record {
 
 -- ---- what a reader does
 
+abbrev pub without_product : Pending → Pending
+without_product pending = record { sum = pending.sum; product = false }
+
+abbrev pub without_sum : Pending → Pending
+without_sum pending = record { sum = None; product = pending.product }
+
 abbrev pub product_steps : Bool → List Step
 product_steps true = Apply Times ∷ []
 product_steps false = []
@@ -132,7 +138,19 @@ abbrev pub sum_steps : Option Operator → List Step
 sum_steps None = []
 sum_steps (Some op) = Apply op ∷ []
 
--- it went on to the next state, or there is none
-abbrev pub Goes : Bool → Option State → Reader → Type 0
-Goes true next reader = (state : State) × (next ≡ Some state) × (reader ≡ shown state)
-Goes false next reader = next ≡ None
+-- the reader shows the next state, or there is none
+abbrev pub IsNext : Bool → Option State → Reader → Type 0
+IsNext true next reader = (state : State) × (next ≡ Some state) × (reader ≡ shown state)
+IsNext false next reader = next ≡ None
+
+-- whatever state the old reader shows, the change leads to what the new one shows, or nowhere
+abbrev pub Goes : Reader → Reader → (State → Option State) → Bool → Type 0
+Goes old new change goes = (state : State) → old ≡ shown state → IsNext goes (change state) new
+
+-- the same for an operand of this one step
+abbrev pub GoesWith : Reader → Reader → Step → Bool → Type 0
+GoesWith old new step goes = (tree : Tree) → steps_of tree ≡ step ∷ [] → Goes old new (λ state. with_operand state tree) goes
+
+-- the steps are those of the tree that ends here
+abbrev pub Ends : Reader → Option (List Step) → Type 0
+Ends reader steps = (state : State) → reader ≡ shown state → steps ≡ option_map steps_of (finished state)

@@ -3,7 +3,7 @@
 use Rattle.std.specs.Prelude.{◌≡◌, ℕ, ◌<◌, ◌^◌, List, [], ◌∷◌, ◌++◌, length, IsTrue, ◌==◌, if◌then◌else◌, Option, None, Some}
 use Rattle.std.specs.List.{list_all}
 use Rattle.small_syntax.specs.Reserved.{is_letter}
-use Rattle.small_syntax.specs.Spelling.{bytes_of, IsLongest}
+use Rattle.small_syntax.specs.Spelling.{bytes_of, IsLongest, IsTextOf}
 use Rattle.small_syntax.specs.declared.token.Operator.TheVariants.{Plus, Minus, Times}
 use Rattle.small_syntax.specs.declared.token.Token.{Token}
 use Rattle.small_syntax.specs.declared.token.Token.TheVariants.{Number, Word, Operator, Open, Close, Equals, Semicolon}
@@ -27,6 +27,18 @@ pub record IsFirst (text : List ℕ) (token : Token) (rest : List ℕ) : Type 0 
   pub sound : IsSound token
   pub whole : text ≡ bytes_of token ++ rest
   pub longest : IsLongest token rest
+
+abbrev pub IsNoFirst : List ℕ → Type 0
+IsNoFirst text = (token : Token) (rest : List ℕ) → IsFirst text token rest → ⊥
+
+-- the bytes are these tokens and no others
+pub record IsOnlyTokens (tokens : List Token) (bytes : List ℕ) : Type 0 where
+  pub spelled : IsTextOf tokens bytes
+  pub sound : AreSound tokens
+  pub only : (others : List Token) → AreSound others → IsTextOf others bytes → others ≡ tokens
+
+abbrev pub IsNoTokens : List ℕ → Type 0
+IsNoTokens bytes = (tokens : List Token) → AreSound tokens → IsTextOf tokens bytes → ⊥
 
 -- the token of one byte that is no letter and no digit
 abbrev pub mark_at : ℕ → Option Token

@@ -9,7 +9,8 @@ const MAX_OPERATORS: u32 = 100;
 
 const MAX_OPEN: u32 = 150;
 
-/// Whether the tokens up to the first semicolon have at most 100 operators, and 150 parentheses open at once.
+/// Whether the tokens up to the first semicolon have at most 100 operators, and at most 150
+/// parentheses open at once.
 pub fn is_within_limits(tokens: &[Token]) -> bool
     ensures { result ≡ is_within 0 0 tokens.now }
 {

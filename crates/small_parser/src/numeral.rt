@@ -4,8 +4,9 @@ ghost use Rattle.std.specs.Prelude.{◌≡◌, ◌≢◌, ℕ, ◌^◌, ◌<◌,
 ghost use Rattle.std.specs.List.{list_all};
 ghost use Rattle.std.specs.Char.{is_ascii_digit};
 ghost use Rattle.std.specs.Fmt.{decimal};
-ghost use Rattle.small_syntax.specs.Spelling.{BeginsOtherwise};
+ghost use Rattle.small_syntax.specs.declared.token.Token.TheVariants.{Number};
 ghost use Rattle.small_parser.specs.Numeral.{read_on};
+ghost use Rattle.small_parser.specs.Sound.{IsFirst};
 
 use crate::scan::split_digits;
 
@@ -13,8 +14,8 @@ const MAX_NUMBER: u64 = 9_007_199_254_740_991;
 
 /// The number at the front, and the rest.
 pub fn number(text: &[u8]) -> Option<(u64, &[u8])>
-    ensures found { IfSome result (λ p. (p.0 < 2 ^ 53) × (text.now ≡ decimal p.0 ++ p.1.now) × BeginsOtherwise is_ascii_digit p.1.now) }
-    ensures only { IfNone result ((n : ℕ) (rest : List ℕ) → n < 2 ^ 53 → text.now ≡ decimal n ++ rest → BeginsOtherwise is_ascii_digit rest → ⊥) }
+    ensures found { IfSome result (λ p. IsFirst text.now (Number p.0) p.1.now) }
+    ensures none { IfNone result ((n : ℕ) (rest : List ℕ) → IsFirst text.now (Number n) rest → ⊥) }
 {
     let (digits, rest) = split_digits(text);
     let n = whole(digits)?;
@@ -34,6 +35,7 @@ fn whole(digits: &[u8]) -> Option<u64>
     value_of(digits)
 }
 
+/// The number that the digits write, where it is in range.
 fn value_of(digits: &[u8]) -> Option<u64>
     requires { list_all is_ascii_digit digits.now ≡ true }
     ensures some { IfSome result (λ n. (n ≡ read_on 0 digits.now) × (n < 2 ^ 53)) }

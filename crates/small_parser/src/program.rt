@@ -3,9 +3,9 @@
 ghost use Rattle.std.specs.Prelude.{◌≡◌, ◌∷◌, ℕ, List, IfOk, IfSome, IfNone};
 ghost use Rattle.small_syntax.specs.Reserved.{let_word};
 ghost use Rattle.small_syntax.specs.declared.token.Token.{Token};
-ghost use Rattle.small_syntax.specs.declared.token.Token.TheVariants.{Equals, Word};
+ghost use Rattle.small_syntax.specs.declared.token.Token.TheVariants.{Word};
 ghost use Rattle.small_parser.specs.Sound.{AreSound};
-ghost use Rattle.small_parser.specs.Expressions.{IsOnlyDeclaration, IsNoDeclaration, IsOnlyEnd, IsNoEnd, IsOnlyProgram, IsNoProgram};
+ghost use Rattle.small_parser.specs.Expressions.{IsNamed, IsOnlyDeclaration, IsNoDeclaration, IsOnlyEnd, IsNoEnd, IsOnlyProgram, IsNoProgram};
 ghost use Rattle.small_parser.specs.OnlyForm.{IsProgramOf, IsNoSmallText};
 
 use crate::expression::expression;
@@ -16,7 +16,7 @@ use ivm_text::{NoMemory, Units};
 use small_syntax::{Let, Program, Steps, Token};
 use std::alloc::Global;
 
-/// The program of a small text, or `None` where the bytes are none.
+/// The program of a small text, or `None` where the bytes are none. Only want of memory is an error.
 pub fn parse(alloc: Global, bytes: &[u8]) -> Result<Option<Program>, NoMemory>
     ensures found { IfOk result (λ answer. IfSome answer (λ program. IsProgramOf bytes.now program)) }
     ensures none { IfOk result (λ answer. IfNone answer (IsNoSmallText bytes.now)) }
@@ -27,6 +27,7 @@ pub fn parse(alloc: Global, bytes: &[u8]) -> Result<Option<Program>, NoMemory>
     program(alloc, tokens.as_slice())
 }
 
+/// The program that the tokens are.
 fn program(alloc: Global, tokens: &[Token]) -> Result<Option<Program>, NoMemory>
     requires { AreSound tokens.now }
     ensures found { IfOk result (λ answer. IfSome answer (λ program. IsOnlyProgram tokens.now program)) }
@@ -83,8 +84,8 @@ fn declaration(alloc: Global, tokens: &[Token]) -> Result<Option<(Let, &[Token])
 
 /// The word before `=` at the front, and what follows.
 fn named(tokens: &[Token]) -> Option<(&Units, &[Token])>
-    ensures some { IfSome result (λ p. tokens.now ≡ Word p.0.now ∷ Equals ∷ p.1.now) }
-    ensures none { IfNone result ((word : List ℕ) (rest : List Token) → tokens.now ≡ Word word ∷ Equals ∷ rest → ⊥) }
+    ensures some { IfSome result (λ p. IsNamed tokens.now p.0.now p.1.now) }
+    ensures none { IfNone result ((word : List ℕ) (rest : List Token) → IsNamed tokens.now word rest → ⊥) }
 {
     match tokens {
         [Token::Word(name), Token::Equals, after @ ..] => Some((name, after)),

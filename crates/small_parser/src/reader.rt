@@ -1,10 +1,7 @@
 //! An expression that is read from left to right: what waits, and the steps so far.
 
-ghost use Rattle.std.specs.Prelude.{◌≡◌, List, [], ◌∷◌, ◌++◌, IfOk, OnOk, true, false};
-ghost use Rattle.std.specs.Option.{option_map};
-ghost use Rattle.small_syntax.specs.Tree.{Tree};
-ghost use Rattle.small_syntax.specs.Order.{steps_of};
-ghost use Rattle.small_parser.specs.Reading.{State, start, after, with_operand, with_operator, with_sum, closed, finished, shown, product_steps, sum_steps, Goes};
+ghost use Rattle.std.specs.Prelude.{◌≡◌, ◌++◌, IfOk, OnOk, true, false};
+ghost use Rattle.small_parser.specs.Reading.{start, after, with_operator, with_sum, closed, shown, without_product, without_sum, product_steps, sum_steps, Goes, GoesWith, Ends};
 
 use crate::reserved::is_reserved;
 use item_list::{CloneWhole, Items};
@@ -26,17 +23,21 @@ const NOTHING: Pending = Pending {
     product: false,
 };
 
+/// What was read of one expression.
 #[derive(Debug, Drop)]
 pub struct Reader {
-    /// The steps of what needs not wait.
+    /// The steps of all that waits for nothing.
     pub steps: Steps,
     /// What waits outside of each open parenthesis, the innermost last.
     pub outside: Items<Pending>,
+    /// What waits inside the innermost.
     pub pending: Pending,
+    /// Whether an operand has to come next; else an operator, `)` or the end.
     pub awaits_operand: bool,
 }
 
 impl Reader {
+    /// Nothing is read.
     pub fn new(alloc: Global) -> Reader
         ensures { result ≡ shown start }
     {
@@ -48,9 +49,9 @@ impl Reader {
         }
     }
 
-    /// Whether the token may come next.
+    /// Whether the token may come next. If not, or after an error, the reader is of no more use.
     pub fn take(&mut self, alloc: Global, token: &Token) -> Result<bool, NoMemory>
-        ensures { IfOk result (λ goes. (s : State) → self.old ≡ shown s → Goes goes (after s token.now) self.new) }
+        ensures { IfOk result (Goes self.old self.new (λ s. after s token.now)) }
     {
         if self.awaits_operand {
             self.take_operand(alloc, token)
@@ -61,7 +62,7 @@ impl Reader {
 
     fn take_operand(&mut self, alloc: Global, token: &Token) -> Result<bool, NoMemory>
         requires { self.old.awaits_operand ≡ true }
-        ensures { IfOk result (λ goes. (s : State) → self.old ≡ shown s → Goes goes (after s token.now) self.new) }
+        ensures { IfOk result (Goes self.old self.new (λ s. after s token.now)) }
     {
         match token {
             Token::Number(n) => self.operand(Step::Number(*n)),
@@ -82,7 +83,7 @@ impl Reader {
 
     fn take_operator(&mut self, token: &Token) -> Result<bool, NoMemory>
         requires { self.old.awaits_operand ≡ false }
-        ensures { IfOk result (λ goes. (s : State) → self.old ≡ shown s → Goes goes (after s token.now) self.new) }
+        ensures { IfOk result (Goes self.old self.new (λ s. after s token.now)) }
     {
         match token {
             Token::Operator(operator) => self.operator(*operator),
@@ -93,7 +94,7 @@ impl Reader {
 
     fn operand(&mut self, step: Step) -> Result<bool, NoMemory>
         requires { self.old.awaits_operand ≡ true }
-        ensures { IfOk result (λ goes. (s : State) (tree : Tree) → self.old ≡ shown s → steps_of tree ≡ step ∷ [] → Goes goes (with_operand s tree) self.new) }
+        ensures { IfOk result (GoesWith self.old self.new step) }
     {
         self.steps.push(step)?;
         self.end_operand()?;
@@ -102,7 +103,7 @@ impl Reader {
 
     fn operator(&mut self, operator: Operator) -> Result<bool, NoMemory>
         requires { self.old.awaits_operand ≡ false }
-        ensures { IfOk result (λ goes. (s : State) → self.old ≡ shown s → Goes goes (with_operator s operator) self.new) }
+        ensures { IfOk result (Goes self.old self.new (λ s. with_operator s operator)) }
     {
         match operator {
             Operator::Times => {
@@ -116,7 +117,7 @@ impl Reader {
 
     fn sum(&mut self, operator: Operator) -> Result<bool, NoMemory>
         requires { self.old.awaits_operand ≡ false }
-        ensures { IfOk result (λ goes. (s : State) → self.old ≡ shown s → Goes goes (with_sum s operator) self.new) }
+        ensures { IfOk result (Goes self.old self.new (λ s. with_sum s operator)) }
     {
         self.end_sum()?;
         self.pending.sum = Some(operator);
@@ -126,7 +127,7 @@ impl Reader {
 
     fn close(&mut self) -> Result<bool, NoMemory>
         requires { self.old.awaits_operand ≡ false }
-        ensures { IfOk result (λ goes. (s : State) → self.old ≡ shown s → Goes goes (closed s) self.new) }
+        ensures { IfOk result (Goes self.old self.new closed) }
     {
         self.end_sum()?;
         match self.outside.pop() {
@@ -143,7 +144,7 @@ impl Reader {
     fn end_operand(&mut self) -> Result<(), NoMemory>
         ensures steps { OnOk result (self.new.steps ≡ self.old.steps ++ product_steps self.old.pending.product) }
         ensures outside { self.new.outside ≡ self.old.outside }
-        ensures pending { OnOk result (self.new.pending ≡ record { sum = self.old.pending.sum; product = false }) }
+        ensures pending { OnOk result (self.new.pending ≡ without_product self.old.pending) }
         ensures awaits { OnOk result (self.new.awaits_operand ≡ false) }
     {
         if self.pending.product {
@@ -158,7 +159,7 @@ impl Reader {
     fn end_sum(&mut self) -> Result<(), NoMemory>
         ensures steps { OnOk result (self.new.steps ≡ self.old.steps ++ sum_steps self.old.pending.sum) }
         ensures outside { self.new.outside ≡ self.old.outside }
-        ensures pending { OnOk result (self.new.pending ≡ record { sum = None; product = self.old.pending.product }) }
+        ensures pending { OnOk result (self.new.pending ≡ without_sum self.old.pending) }
         ensures awaits { self.new.awaits_operand ≡ self.old.awaits_operand }
     {
         if let Some(operator) = self.pending.sum {
@@ -170,7 +171,7 @@ impl Reader {
 
     /// The steps, where the expression may end here.
     pub fn end(mut self) -> Result<Option<Steps>, NoMemory>
-        ensures { IfOk result (λ answer. (s : State) → self ≡ shown s → answer ≡ option_map steps_of (finished s)) }
+        ensures { IfOk result (Ends self) }
     {
         if self.awaits_operand || self.outside.len() > 0 {
             return Ok(None);

@@ -3,9 +3,8 @@
 ghost use Rattle.std.specs.Prelude.{◌≡◌, ℕ, ◌∷◌, ◌++◌, List, IfOk, IfSome, IfNone, true};
 ghost use Rattle.std.specs.List.{list_all};
 ghost use Rattle.small_syntax.specs.Reserved.{is_letter};
-ghost use Rattle.small_syntax.specs.Spelling.{IsTextOf, BeginsOtherwise};
-ghost use Rattle.small_syntax.specs.declared.token.Token.{Token};
-ghost use Rattle.small_parser.specs.Sound.{AreSound, IsFirst, mark_at};
+ghost use Rattle.small_syntax.specs.Spelling.{BeginsOtherwise};
+ghost use Rattle.small_parser.specs.Sound.{IsFirst, IsNoFirst, IsOnlyTokens, IsNoTokens, mark_at};
 
 use crate::numeral::number;
 use crate::scan::split_letters;
@@ -16,9 +15,8 @@ use std::alloc::Global;
 
 /// The tokens that the bytes are, where they are tokens.
 pub fn tokens(alloc: Global, bytes: &[u8]) -> Result<Option<Items<Token>>, NoMemory>
-    ensures found { IfOk result (λ answer. IfSome answer (λ tokens. IsTextOf tokens bytes.now × AreSound tokens)) }
-    ensures only { IfOk result (λ answer. IfSome answer (λ tokens. (others : List Token) → AreSound others → IsTextOf others bytes.now → others ≡ tokens)) }
-    ensures none { IfOk result (λ answer. IfNone answer ((others : List Token) → AreSound others → IsTextOf others bytes.now → ⊥)) }
+    ensures found { IfOk result (λ answer. IfSome answer (λ tokens. IsOnlyTokens tokens bytes.now)) }
+    ensures none { IfOk result (λ answer. IfNone answer (IsNoTokens bytes.now)) }
 {
     let mut tokens = Items::new(alloc);
     let mut rest = bytes;
@@ -39,7 +37,7 @@ pub fn tokens(alloc: Global, bytes: &[u8]) -> Result<Option<Items<Token>>, NoMem
 /// The token at the front, and the rest.
 fn token_at(alloc: Global, text: &[u8]) -> Result<Option<(Token, &[u8])>, NoMemory>
     ensures found { IfOk result (λ answer. IfSome answer (λ p. IsFirst text.now p.0 p.1.now)) }
-    ensures none { IfOk result (λ answer. IfNone answer ((token : Token) (rest : List ℕ) → IsFirst text.now token rest → ⊥)) }
+    ensures none { IfOk result (λ answer. IfNone answer (IsNoFirst text.now)) }
 {
     let Some((first, after)) = text.split_first() else {
         return Ok(None);
@@ -78,7 +76,6 @@ fn word(alloc: Global, text: &[u8]) -> Result<(Units, &[u8]), NoMemory>
     ensures longest { IfOk result (λ p. BeginsOtherwise is_letter p.1.now) }
 {
     let (letters, rest) = split_letters(text);
-    // Letters are UTF-8, so that memory is all that can lack.
-    let word = Units::from_utf8(alloc, letters).map_err(|_| NoMemory)?;
+    let word = Units::from_latin1(alloc, letters)?;
     Ok((word, rest))
 }

@@ -1,5 +1,5 @@
-use Rattle.std.proofs.Common.{◌≡◌, ◌<◌, length, arith, rules, ap, ◌∙◌, sym, []}
-use Rattle.small_parser.proofs.Numerals.{nonempty, whole_some, whole_none, zero_reads, zero_more, empty_none}
+use Rattle.std.proofs.Common.{arith, rules}
+use Rattle.small_parser.proofs.Numerals.{whole_some, whole_none, zero_reads, zero_more, empty_none}
 use Rattle.small_parser.proofs.numeral.whole.Goals as goal
 
 pub returns-in_err-first-clause-none : goal.returns-in_err-first-clause-none

@@ -1,4 +1,4 @@
-use Rattle.std.proofs.Common.{rules, arith}
+use Rattle.std.proofs.Common.{rules}
 use Rattle.small_parser.proofs.Programs.{empty_end, only_end, long_end, no_end}
 use Rattle.small_parser.proofs.program.ending.Goals as goal
 

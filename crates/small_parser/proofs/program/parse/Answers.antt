@@ -6,13 +6,10 @@ returns-in_default-clause-none c = no_tokens c.args.bytes.now (rw c.in_default.i
 
 pub returns-clause-found : goal.returns-clause-found
 returns-clause-found c =
-    let tokens = c.in-Some.tokens in
-    let read = rw c.in-Some.is at c.in_ok-tokens.ensures.found in
-    found_answer c.program.result c.args.bytes.now tokens c.as_slice.result.now c.as_slice.ensures.items read.0
-    (rw c.in-Some.is at c.in_ok-tokens.ensures.only) c.program.ensures.found
+    found_answer c.program.result c.args.bytes.now c.in-Some.tokens c.as_slice.result.now c.as_slice.ensures.items
+    (rw c.in-Some.is at c.in_ok-tokens.ensures.found) c.program.ensures.found
 
 pub returns-clause-none : goal.returns-clause-none
 returns-clause-none c =
-    let tokens = c.in-Some.tokens in
-    none_answer c.program.result c.args.bytes.now tokens c.as_slice.result.now c.as_slice.ensures.items
-    (rw c.in-Some.is at c.in_ok-tokens.ensures.only) c.program.ensures.none
+    none_answer c.program.result c.args.bytes.now c.in-Some.tokens c.as_slice.result.now c.as_slice.ensures.items
+    (rw c.in-Some.is at c.in_ok-tokens.ensures.found) c.program.ensures.none

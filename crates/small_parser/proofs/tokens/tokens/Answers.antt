@@ -1,5 +1,5 @@
-use Rattle.std.proofs.Common.{◌≡◌, ◌∷◌, ap, subst, sym, ◌∙◌, arith}
-use Rattle.small_parser.proofs.Spelled.{Lexed, first_shorter, lexed_space, lexed_token, lexed_all, lexed_only, lexed_stuck}
+use Rattle.std.proofs.Common.{◌∷◌, ap, subst, sym, ◌∙◌}
+use Rattle.small_parser.proofs.Spelled.{Lexed, first_shorter, lexed_space, lexed_token, lexed_whole, lexed_stuck}
 use Rattle.std.proofs.lemmas.List.{nil_from_length}
 use Rattle.small_parser.specs.Sound.{IsFirst}
 use Rattle.small_parser.proofs.tokens.tokens.Goals as goal
@@ -35,10 +35,4 @@ pub returns-clause-found : goal.returns-clause-found
 returns-clause-found c =
     let l = c.loop-first in
     let lexed = subst (λ t. Lexed c.args.bytes.now l.tokens t) (nil_from_length l.rest.now c.in_default.ensures.cases) l.invariant in
-    (lexed_all c.args.bytes.now l.tokens lexed, l.invariant.sound)
-
-pub returns-clause-only : goal.returns-clause-only
-returns-clause-only c =
-    let l = c.loop-first in
-    let lexed = subst (λ t. Lexed c.args.bytes.now l.tokens t) (nil_from_length l.rest.now c.in_default.ensures.cases) l.invariant in
-    lexed_only c.args.bytes.now l.tokens lexed
+    lexed_whole c.args.bytes.now l.tokens lexed

@@ -1,4 +1,4 @@
-use Rattle.std.proofs.Common.{[], ◌∷◌, ◌++◌, ap, sym, ◌∙◌}
+use Rattle.std.proofs.Common.{◌++◌, ap, sym, ◌∙◌}
 use Rattle.small_parser.specs.Reading.{product_steps}
 use Rattle.small_parser.proofs.Grown.{close_goes}
 use Rattle.small_parser.proofs.reader.Reader.close.Goals as goal

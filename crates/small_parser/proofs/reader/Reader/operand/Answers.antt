@@ -4,7 +4,7 @@ use Rattle.small_parser.proofs.Grown.{operand_goes}
 use Rattle.small_parser.proofs.reader.Reader.operand.Goals as goal
 
 pub returns : goal.returns
-returns c = λ s tree e is.
+returns c = λ tree is s e.
     let old = c.args.self.now in
     let ended = c.in_ok-end_operand.ensures in
     operand_goes old c.end_operand.new.self (c.args.step ∷ []) s tree c.requires e is

@@ -1,4 +1,4 @@
-use Rattle.std.proofs.Common.{Bool, Some, ap, refl, ◌∙◌}
+use Rattle.std.proofs.Common.{Bool, Some, ap, refl}
 use Rattle.small_parser.specs.declared.reader.Pending.{Pending}
 use Rattle.small_parser.proofs.Grown.{sum_goes}
 use Rattle.small_parser.proofs.reader.Reader.sum.Goals as goal
