@@ -1,5 +1,5 @@
 -- The commands of a host script come where they may.
-use Rattle.std.proofs.Common.{◌≡◌, ℕ, ◌+◌, ◌<◌, ◌≤◌, List, [], ◌∷◌, refl, subst, sym, arith, lit<}
+use Rattle.std.proofs.Common.{ℕ, ◌+◌, ◌<◌, List, [], ◌∷◌, refl, subst, sym, arith, lit<}
 use Rattle.std.specs.List.{AllByRecursion}
 use Rattle.host_script.specs.Script.{AreInOrder, IsEval}
 use Rattle.host_script.specs.declared.script.Command.{Command}
