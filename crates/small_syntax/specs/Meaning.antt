@@ -18,17 +18,17 @@ abbrev pub Names : Type 0
 Names = List (List ℕ × Option ℤ)
 
 abbrev pub is_declared : List ℕ → Names → Bool
-is_declared word names = list_any (λ entry. bytes_eq entry.0 word) names
+is_declared word names = list_any (λ entry. bytes_eq word entry.0) names
 
 -- the number of a name, where it has one
 abbrev pub number_of : List ℕ → Names → Option ℤ
 number_of word [] = None
-number_of word (entry ∷ names) = if bytes_eq entry.0 word then entry.1 else number_of word names
+number_of word (entry ∷ names) = if bytes_eq word entry.0 then entry.1 else number_of word names
 
 -- the name has this number now, and keeps its place
 abbrev pub with_number : List ℕ → ℤ → Names → Names
 with_number word n [] = []
-with_number word n (entry ∷ names) = if bytes_eq entry.0 word then (entry.0, Some n) ∷ names else entry ∷ with_number word n names
+with_number word n (entry ∷ names) = if bytes_eq word entry.0 then (entry.0, Some n) ∷ names else entry ∷ with_number word n names
 
 -- the words enter without numbers
 abbrev pub with_declared : Names → List Declaration → Names
@@ -42,7 +42,7 @@ is_some_number (Some n) = true
 
 -- it may be read: it has a number, or an earlier `let` declares it
 abbrev pub may_be_read : Names → List (List ℕ) → List ℕ → Bool
-may_be_read names earlier word = is_some_number (number_of word names) || list_any (λ w. bytes_eq w word) earlier
+may_be_read names earlier word = is_some_number (number_of word names) || list_any (bytes_eq word) earlier
 
 -- each name that the expression reads may be read
 abbrev pub reads_well : Names → List (List ℕ) → Tree → Bool
@@ -59,7 +59,7 @@ ends_well names earlier (Some tree) = reads_well names earlier tree
 abbrev pub is_built_after : Names → List (List ℕ) → List Declaration → Option Tree → Bool
 is_built_after names earlier [] last = ends_well names earlier last
 is_built_after names earlier (d ∷ lets) last =
-    not (is_declared d.word names) && not (list_any (λ w. bytes_eq w d.word) earlier) && reads_well names earlier d.value
+    not (is_declared d.word names) && not (list_any (bytes_eq d.word) earlier) && reads_well names earlier d.value
     && is_built_after names (earlier ++ d.word ∷ []) lets last
 
 abbrev pub is_built : Names → Text → Bool

@@ -1,0 +1,5 @@
+pub mod NameLemmas
+pub mod BuiltLemmas
+pub mod RunLemmas
+pub mod EvaluationLemmas
+pub mod ReadLemmas
