@@ -11,7 +11,7 @@ use Rattle.host_script.specs.declared.fault.HostKind.TheVariants.{TooLong, Unkno
 use Rattle.host_script.specs.Faults.{◌>>=◌, unknown, Gives}
 use Rattle.host_script.specs.Words.{lines_of, after_word, behind, word, ends_after}
 use Rattle.host_script.specs.Texts.{text_here, end_word, lines_until, first_bad, text_on, text_of, most_text}
-use Rattle.host_script.specs.HostText.{host_of, is_skipped, isolate_line, context_line, eval_line, may_eval, with_line, with_lines}
+use Rattle.host_script.specs.HostText.{host_of, is_skipped, isolate_line, context_line, may_eval, with_line, with_lines}
 use Rattle.host_script.specs.declared.script.What.TheVariants.{Context}
 use Rattle.host_script.specs.Script.{no_lines, names_of, is_free, has_isolate, with_isolate, with_command}
 

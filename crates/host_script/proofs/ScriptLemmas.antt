@@ -1,5 +1,5 @@
 -- A line keeps the shape of a script, and its names are new.
-use Rattle.std.proofs.Common.{◌≡◌, ℕ, ◌+◌, ◌<◌, ◌≤◌, ◌&&◌, Bool, true, false, IsTrue, List, [], ◌∷◌, ◌++◌, length, length-append, map, min, not, drop, codes, nat_le, nat_lt, suc, zero, if◌then◌else◌, ◌-◌, Option, Some, None, Result, Ok, Err, refl, ap, ◌∙◌, sym, subst, arith, append_assoc, add-zero}
+use Rattle.std.proofs.Common.{◌≡◌, ℕ, ◌+◌, ◌<◌, ◌≤◌, ◌&&◌, Bool, true, false, IsTrue, List, [], ◌∷◌, ◌++◌, length, length-append, map, not, drop, codes, nat_le, nat_lt, suc, zero, if◌then◌else◌, ◌-◌, Some, None, Result, Ok, Err, refl, ap, ◌∙◌, sym, subst, arith, append_assoc, add-zero}
 use Rattle.std.specs.List.{list_any, filter_map, AllByRecursion, IsDistinct}
 use Rattle.std.specs.Str.{bytes_eq, is_utf8}
 use Rattle.std.proofs.lemmas.List.Elements.{filter_map-append}
@@ -20,7 +20,7 @@ use Rattle.host_script.specs.Faults.{◌>>=◌, unknown, Fails}
 use Rattle.host_script.specs.Words.{is_name, lines_of, skip_blanks, after_word, behind, word}
 use Rattle.host_script.specs.Texts.{text_of}
 use Rattle.host_script.specs.HostText.{host_of, is_skipped, may_eval, eval_line, with_line, with_lines}
-use Rattle.host_script.specs.Script.{names_of, is_free, has_label, with_isolate, with_command, no_lines, IsDeclaration, IsContext, IsEval, AreInOrder, IsWhole}
+use Rattle.host_script.specs.Script.{names_of, is_free, has_label, with_isolate, with_command, no_lines, IsEval, AreInOrder}
 use Rattle.host_script.specs.Steps.{Goes, IsNoted}
 
 -- ---- lists

@@ -1,11 +1,10 @@
 -- A text that is read line by line is the one that its lines hold.
-use Rattle.std.proofs.Common.{◌≡◌, ℕ, ◌+◌, ◌-◌, ◌<◌, ◌≤◌, Bool, true, false, List, [], ◌∷◌, ◌++◌, length, length-append, drop, take, Option, Some, None, Result, Ok, Err, if◌then◌else◌, refl, ap, ◌∙◌, sym, subst, arith, append_assoc, append-nil, nat_lt, nat_eq, add-zero}
+use Rattle.std.proofs.Common.{◌≡◌, ℕ, ◌+◌, ◌-◌, ◌<◌, ◌≤◌, Bool, true, false, List, [], ◌∷◌, ◌++◌, length, length-append, drop, Option, Some, None, Ok, if◌then◌else◌, refl, ap, ◌∙◌, sym, arith, append_assoc, append-nil, nat_lt, nat_eq, add-zero}
 use Rattle.std.specs.List.{join_with_byte}
 use Rattle.std.specs.Option.{option_map, option_map_or, option_or}
 use Rattle.std.specs.Str.{bytes_eq, is_utf8}
 use Rattle.std.proofs.lemmas.Bool.Decides.{nat_tests}
 use Rattle.std.proofs.lemmas.List.{drop-drop}
-use Rattle.host_script.specs.declared.fault.HostFault.{HostFault}
 use Rattle.host_script.specs.Faults.{unknown}
 use Rattle.host_script.specs.Words.{lines_of}
 use Rattle.host_script.specs.Texts.{lines_until, first_bad, text_on, most_text}

@@ -1,6 +1,6 @@
 -- A host script as its lines make it: the names that it gives, and what one line adds.
 -- This project's own; docs/HOST.md, "Commands".
-use Rattle.std.specs.Prelude.{◌≡◌, ℕ, ◌+◌, ◌≤◌, ◌&&◌, Bool, IsTrue, false, List, [], ◌∷◌, ◌++◌, length, map, not, slice_get, Option, None, Some, min}
+use Rattle.std.specs.Prelude.{◌≡◌, ℕ, ◌≤◌, ◌&&◌, Bool, IsTrue, false, List, [], ◌∷◌, ◌++◌, length, map, not, slice_get, None, Some, min}
 use Rattle.std.specs.List.{list_any, filter_map, AllByRecursion, IsDistinct}
 use Rattle.std.specs.Option.{option_map_or}
 use Rattle.std.specs.Str.{bytes_eq}

@@ -1,5 +1,5 @@
 -- The lines of a host script, the words of a line, and which words are names.
--- This project's own; docs/HOST.md, "Lines, words and names".
+-- This project's own; docs/HOST.md, "Lines".
 use Rattle.std.specs.Prelude.{ℕ, ◌==◌, ◌||◌, ◌&&◌, Bool, suc, zero, List, length, drop, not, nat_le}
 use Rattle.std.specs.List.{position_or_len, before_first, list_all, slice_index}
 use Rattle.std.specs.Str.Lines.{lines}

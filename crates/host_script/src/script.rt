@@ -9,29 +9,34 @@ pub type IsolateDecls = Items<IsolateDecl>;
 /// The declarations and commands of a script, in the order of its lines.
 pub type Commands = Items<Command>;
 
-/// A whole host script.
+/// A whole host script. A name that a command uses stands as the number of what has it.
 #[derive(Debug, Drop)]
 pub struct HostScript {
+    /// The isolates that it makes; their numbers count from 0.
     pub isolates: IsolateDecls,
+    /// Its declarations and commands; their numbers count from 0 over both.
     pub commands: Commands,
 }
 
-/// An isolate that the script makes, and how many cells it may use.
+/// An isolate that a script makes.
 #[derive(Debug, Drop)]
 pub struct IsolateDecl {
+    /// ASCII letters, digits and underscores.
     pub name: Units,
+    /// How many cells its heap may have.
     pub limit: u32,
 }
 
-/// One line of the script. A declaration has no label.
+/// A declaration or a command.
 #[derive(Debug, Drop)]
 pub struct Command {
+    /// The name that it is known by: ASCII letters, digits and underscores. A declaration has none.
     pub label: Option<Units>,
+    /// What it asks for.
     pub what: What,
 }
 
-/// What a line asks for. Isolates are named by their number, and labels by the number of the command
-/// that has them, both counted from 0.
+/// What a command asks for.
 #[derive(Debug, Drop)]
 pub enum What {
     /// A declaration, such as that of an isolate.

@@ -1,4 +1,4 @@
-use Rattle.std.proofs.Common.{◌≡◌, sym, arith}
+use Rattle.std.proofs.Common.{sym, arith}
 use Rattle.host_script.proofs.NameLemmas.{bytes_differ, bytes_agree, unit_same, take_one_more, whole_same}
 use Rattle.host_script.proofs.draft.is_same.Goals as goal
 

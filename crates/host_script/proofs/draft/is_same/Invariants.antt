@@ -1,4 +1,4 @@
-use Rattle.std.proofs.Common.{◌≡◌, ◌≤◌, length, take}
+use Rattle.std.proofs.Common.{◌≡◌, length, take}
 use Rattle.host_script.proofs.draft.is_same.Given as goal
 
 abbrev pub invariant-loop-place : goal.invariant-loop-place

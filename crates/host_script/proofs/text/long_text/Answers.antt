@@ -1,6 +1,5 @@
-use Rattle.std.proofs.Common.{◌≡◌, ◌+◌, ◌-◌, arith, sym, ap, ◌∙◌}
-use Rattle.host_script.specs.Words.{lines_of}
-use Rattle.host_script.proofs.TextLemmas.{reads_more, reads_none, reads_too_much, reads_all, goes_past}
+use Rattle.std.proofs.Common.{arith, sym, ◌∙◌}
+use Rattle.host_script.proofs.TextLemmas.{reads_more, reads_too_much, goes_past}
 use Rattle.host_script.proofs.text.long_text.Goals as goal
 
 pub returns-in-None-clause-goes : goal.returns-in-None-clause-goes

@@ -1,4 +1,4 @@
-use Rattle.std.proofs.Common.{◌≡◌, ◌++◌, ◌∷◌, [], ap, sym, subst, ◌∙◌, arith}
+use Rattle.std.proofs.Common.{arith}
 use Rattle.host_script.proofs.ScriptLemmas.{context_noted}
 use Rattle.host_script.proofs.draft.Draft.context.Goals as goal
 

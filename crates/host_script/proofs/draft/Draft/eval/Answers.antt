@@ -1,4 +1,4 @@
-use Rattle.std.proofs.Common.{◌≡◌, ◌-◌, arith, sym, subst, ap, ◌∙◌}
+use Rattle.std.proofs.Common.{◌-◌, arith, sym, subst, ◌∙◌}
 use Rattle.std.proofs.lemmas.Result.{err_from_is_err_and}
 use Rattle.host_script.specs.Words.{lines_of}
 use Rattle.host_script.specs.HostText.{eval_line}
