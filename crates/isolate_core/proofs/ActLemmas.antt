@@ -1,12 +1,12 @@
 -- What a task does is one thing.
-use Rattle.std.proofs.Common.{◌≡◌, ℕ, List, [], ◌∷◌, refl, subst, sym, ap, ◌∙◌, slice_set, slice_index_or}
+use Rattle.std.proofs.Common.{◌≡◌, ℕ, List, [], subst, sym, ap, ◌∙◌, slice_set, slice_index_or}
 use Rattle.small_syntax.specs.Meaning.{Names, Evaluates}
 use Rattle.small_syntax.specs.declared.evaluation.Evaluation.{Evaluation}
 use Rattle.small_eval.specs.Outcome.{IsOnlyOutcome}
 use Rattle.task_history.specs.declared.task.Task.{Task}
 use Rattle.task_history.specs.declared.task.Outcome.{Outcome}
 use Rattle.task_history.specs.declared.record.Entry.{Entry}
-use Rattle.isolate_core.specs.Isolate.{Does, EvaluatesIn, IsOnlyAct, IsOnlyDeed, IsOnlyEvaluation, entry_of, outcome_of}
+use Rattle.isolate_core.specs.Isolate.{IsOnlyAct, IsOnlyDeed, IsOnlyEvaluation, entry_of, outcome_of}
 
 pub only_evaluation : (context : ℕ) (text : List ℕ) (old new : List Names) (before : Names) (evaluation : Evaluation) (after : Names) (out : Outcome)
     → slice_index_or old context [] ≡ before → new ≡ slice_set old context after → out ≡ outcome_of evaluation → IsOnlyOutcome before text evaluation after → IsOnlyEvaluation context text old new out

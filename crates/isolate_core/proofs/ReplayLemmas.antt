@@ -1,5 +1,5 @@
 -- A replay goes on by one entry, and ends where no other does.
-use Rattle.std.proofs.Common.{◌≡◌, List, [], ◌∷◌, ◌++◌, Option, Some, None, refl, subst, sym, ap, ◌∙◌}
+use Rattle.std.proofs.Common.{◌≡◌, List, [], ◌∷◌, ◌++◌, Option, Some, refl, subst, sym, ap}
 use Rattle.small_syntax.specs.Meaning.{Names}
 use Rattle.task_history.specs.declared.task.Task.{Task}
 use Rattle.task_history.specs.declared.record.Entry.{Entry}

@@ -10,7 +10,6 @@ use Rattle.ivm_text.specs.declared.copies.ErrorKind.TheVariants.{RangeError}
 use Rattle.ivm_text.specs.declared.copies.Leaf.{Leaf}
 use Rattle.ivm_text.specs.declared.copies.Leaf.TheVariants as leaf
 use Rattle.ivm_text.specs.declared.copies.Passed.TheVariants as passed
-use Rattle.ivm_text.specs.declared.copies.Want.{Want}
 use Rattle.ivm_text.specs.declared.copies.Want.TheVariants.{Value}
 use Rattle.ivm_text.specs.declared.refusal.RefusalKind.TheVariants.{Unexpected}
 use Rattle.task_history.specs.declared.task.Task.{Task}

@@ -1,5 +1,5 @@
 -- Where the words and the bytes are right and neither end failed, the run is done or found no memory.
-use Rattle.std.proofs.Common.{◌≡◌, ◌⊎◌, inl, inr, ℕ, ◌<◌, List, ◌++◌, length, Bool, true, false, Ok, Err, IsOk, IsSomeAnd, Option, Some, None, refl, sym, ap, ◌∙◌, append-nil, length-append, is_ok, arith, subst}
+use Rattle.std.proofs.Common.{◌≡◌, ◌⊎◌, inl, inr, ℕ, List, ◌++◌, length, true, Ok, Err, IsOk, IsSomeAnd, Option, Some, None, refl, sym, ap, ◌∙◌, append-nil, length-append, is_ok, arith, subst}
 use Rattle.std.proofs.lemmas.Bool.{cases_lt}
 use Rattle.std.specs.Io.KnownBytes.{IsAtEnd}
 use Rattle.ivm_io.specs.Transfers.{Reads}

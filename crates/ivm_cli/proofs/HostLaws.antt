@@ -7,5 +7,4 @@ use Rattle.host_script.specs.declared.fault.HostKind.TheVariants.{TooLong}
 use Rattle.ivm_cli.specs.Run.{most}
 
 pub host_of_long : (bytes : List ℕ) → most < length bytes → host_of bytes ≡ Err (At 0 TooLong)
-unfolding host_of
 host_of_long bytes many = rw (lt-ltb most (length bytes) many) refl

@@ -1,6 +1,6 @@
 -- The texts that the program writes.
 -- This project's own; docs/FORMATS.md, "The report".
-use Rattle.std.specs.Prelude.{ℕ, List, [], ◌∷◌, ◌++◌, slice_get, codes, Bool, Option, None, Some, if◌then◌else◌}
+use Rattle.std.specs.Prelude.{ℕ, List, [], ◌∷◌, ◌++◌, slice_get, codes, Option, None, Some, if◌then◌else◌}
 use Rattle.std.specs.Fmt.{decimal, signed_decimal}
 use Rattle.ivm_text.specs.Text.{utf8_of}
 use Rattle.ivm_text.specs.declared.copies.Copy.{Copy}

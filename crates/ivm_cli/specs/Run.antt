@@ -1,6 +1,6 @@
 -- What a call means to write, and what comes of it.
 -- This project's own; docs/CLAIMS.md, "The top call".
-use Rattle.std.specs.Prelude.{◌≡◌, ℕ, List, [], Ok, Err, Bool, true, false, Option}
+use Rattle.std.specs.Prelude.{◌≡◌, ℕ, List, Ok, Err, Bool, true, false, Option}
 use Rattle.std.specs.Io.KnownBytes.{Appends, Keeps}
 use Rattle.ivm_io.specs.Transfers.{Reads, AppendsPrefix}
 use Rattle.task_history.specs.Lists.{empty_record}

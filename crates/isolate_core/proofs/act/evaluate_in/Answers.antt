@@ -1,4 +1,4 @@
-use Rattle.std.proofs.Common.{◌≡◌, List, [], ◌∙◌, ap, sym, subst, slice_set, slice_index_or}
+use Rattle.std.proofs.Common.{[], ◌∙◌, ap, slice_set}
 use Rattle.std.proofs.lemmas.List.{set-set}
 use Rattle.std.proofs.lemmas.Option.{get_or_from_slice_get}
 use Rattle.isolate_core.proofs.ActLemmas.{only_evaluation}
