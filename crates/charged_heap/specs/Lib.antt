@@ -1,0 +1,4 @@
+pub mod Keys
+pub mod Price
+pub mod Store
+pub mod Room
