@@ -1,3 +1,5 @@
 pub mod BindingLemmas
 pub mod Charges
+pub mod ClosedLaws
+pub mod GrowthLaws
 pub mod KeyLemmas

@@ -4,6 +4,8 @@ ghost use Rattle.charged_heap.specs.Price.{price_of, charge_of, property_price};
 ghost use Rattle.charged_heap.specs.Keys.{value_at};
 ghost use Rattle.charged_heap.specs.Store.{Store, IsAt, IsPlain, IsArray, IsScope, IsPromise, IsReference, item_at, properties, elements, place_count, with_more, with_all, with_item, with_property, with_elements, with_place, with_binding, with_function, with_reaction, with_state, released};
 ghost use Rattle.charged_heap.specs.Room.{AsksFor, AsksOnly};
+ghost use Rattle.charged_heap.specs.Growth.{Grows};
+ghost use Rattle.charged_heap.specs.Closed.{IsClosed, IsSound, IsSoundValue, IsSoundState, IsSoundReaction, AreSound};
 ghost use Rattle.charged_heap.specs.declared.price.TheConstants.{ELEMENT_CELLS, BINDING_CELLS, REACTION_CELLS};
 
 use crate::price::{self, property_price};
@@ -116,6 +118,9 @@ impl Heap {
         ensures err { OnErr result (self.new ≡ self.old) }
 
         ensures over { AsksFor self.old (price_of item) result }
+
+        ensures grown { Grows self.old self.new }
+        ensures closed { IsClosed self.old → IsSound self.old (length self.old.items) item → IsClosed self.new }
     {
         let asked = price::price_of(&item);
         self.room(asked)?;
@@ -131,6 +136,9 @@ impl Heap {
         ensures err { OnErr result (self.new ≡ self.old) }
 
         ensures over { AsksFor self.old (charge_of items.items) result }
+
+        ensures grown { Grows self.old self.new }
+        ensures closed { IsClosed self.old → AreSound self.old items.items → IsClosed self.new }
     {
         let mut asked: u64 = 0;
         for item in &items {
@@ -151,6 +159,9 @@ impl Heap {
 
         ensures over { AsksFor self.old (if is_some (value_at (properties (item_at self.old n)) key.now) then 0 else property_price key.now) result }
         ensures present { IsSome (value_at (properties (item_at self.old n)) key.now) → IsOk result }
+
+        ensures grown { Grows self.old self.new }
+        ensures closed { IsClosed self.old → IsSoundValue self.old value → IsClosed self.new }
     {
         let asked = if self.property(n, key).is_some() {
             0
@@ -171,6 +182,9 @@ impl Heap {
         ensures err { OnErr result (self.new ≡ self.old) }
 
         ensures over { AsksFor self.old ELEMENT_CELLS result }
+
+        ensures grown { Grows self.old self.new }
+        ensures closed { IsClosed self.old → IsSoundValue self.old value → IsClosed self.new }
     {
         self.room(ELEMENT_CELLS)?;
         self.items[n as usize].push_element(value)?;
@@ -183,6 +197,9 @@ impl Heap {
         requires { IsAt IsArray self.old n }
         ensures last { MatchOption result (elements (item_at self.old n) ≡ []) (λ last. elements (item_at self.old n) ≡ elements (item_at self.new n) ++ last ∷ []) }
         ensures rest { self.new ≡ with_item self.old n (with_elements (item_at self.old n) (elements (item_at self.new n))) }
+
+        ensures grown { Grows self.old self.new }
+        ensures closed { IsClosed self.old → IsClosed self.new }
     {
         let last = self.items[n as usize].pop_element();
         if last.is_some() {
@@ -195,7 +212,10 @@ impl Heap {
     pub fn put(&mut self, n: u32, place: u32, value: Value)
         requires there { n < length self.old.items }
         requires within { place < place_count (item_at self.old n) }
-        ensures { self.new ≡ with_item self.old n (with_place (item_at self.old n) place value) }
+        ensures value { self.new ≡ with_item self.old n (with_place (item_at self.old n) place value) }
+
+        ensures grown { Grows self.old self.new }
+        ensures closed { IsClosed self.old → IsSoundValue self.old value → IsClosed self.new }
     {
         let alloc = self.alloc;
         self.items[n as usize].set_place(alloc, place, value);
@@ -208,6 +228,9 @@ impl Heap {
         ensures err { OnErr result (self.new ≡ self.old) }
 
         ensures over { AsksFor self.old BINDING_CELLS result }
+
+        ensures grown { Grows self.old self.new }
+        ensures closed { IsClosed self.old → IsClosed self.new }
     {
         self.room(BINDING_CELLS)?;
         let binding = Binding {
@@ -225,6 +248,9 @@ impl Heap {
         requires { IsAt IsScope self.old n }
         ensures ok { OnOk result (self.new ≡ with_item self.old n (with_function (item_at self.old n) name.now)) }
         ensures err { OnErr result (self.new ≡ self.old) }
+
+        ensures grown { Grows self.old self.new }
+        ensures closed { IsClosed self.old → IsClosed self.new }
     {
         let alloc = self.alloc;
         self.items[n as usize].note_function(alloc, name)?;
@@ -238,6 +264,9 @@ impl Heap {
         ensures err { OnErr result (self.new ≡ self.old) }
 
         ensures over { AsksFor self.old REACTION_CELLS result }
+
+        ensures grown { Grows self.old self.new }
+        ensures closed { IsClosed self.old → IsSoundReaction self.old reaction → IsClosed self.new }
     {
         self.room(REACTION_CELLS)?;
         self.items[n as usize].push_reaction(reaction)?;
@@ -248,7 +277,10 @@ impl Heap {
     /// Changes the state of a promise, and nothing else of it.
     pub fn resolve(&mut self, n: u32, state: PromiseState)
         requires { IsAt IsPromise self.old n }
-        ensures { self.new ≡ with_item self.old n (with_state (item_at self.old n) state) }
+        ensures state { self.new ≡ with_item self.old n (with_state (item_at self.old n) state) }
+
+        ensures grown { Grows self.old self.new }
+        ensures closed { IsClosed self.old → IsSoundState self.old state → IsClosed self.new }
     {
         self.items[n as usize].set_state(state);
     }
@@ -256,7 +288,10 @@ impl Heap {
     /// Makes a reference a released one.
     pub fn release(&mut self, n: u32)
         requires { IsAt IsReference self.old n }
-        ensures { self.new ≡ with_item self.old n (released (item_at self.old n)) }
+        ensures released { self.new ≡ with_item self.old n (released (item_at self.old n)) }
+
+        ensures grown { Grows self.old self.new }
+        ensures closed { IsClosed self.old → IsClosed self.new }
     {
         self.items[n as usize].release();
     }
