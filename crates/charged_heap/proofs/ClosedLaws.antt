@@ -266,3 +266,7 @@ pub closed_popped_some : (s t : Store) (n : ℕ) (values : List Value) (last : O
     → is_some last ≡ true → n < length s.items → IsClosed s → IsClosed t
 closed_popped_some s t n values None e was some within closed = absurd cc
 closed_popped_some s t n values (Some l) e was some within closed = closed_popped s t n values l e was within closed
+
+-- a store without items
+pub closed_empty : (s : Store) → s.items ≡ [] → IsClosed s
+closed_empty s none = record { sound = λ n within. absurd (omega (arith, ap length none, within)) }

@@ -7,9 +7,11 @@
 #![tactic(auto)]
 
 mod builtin;
+mod closed;
 mod fault;
 mod heap;
 mod item;
+mod kinds;
 mod price;
 mod props;
 mod scope;
