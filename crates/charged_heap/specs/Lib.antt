@@ -4,3 +4,4 @@ pub mod Store
 pub mod Room
 pub mod Growth
 pub mod Closed
+pub mod KeyOrder

@@ -12,6 +12,7 @@ mod fault;
 mod heap;
 mod item;
 mod kinds;
+mod order;
 mod price;
 mod props;
 mod scope;
@@ -21,6 +22,7 @@ pub use builtin::Builtin;
 pub use fault::{Fail, HeapFault};
 pub use heap::Heap;
 pub use item::{Item, ItemKind};
+pub use order::{INDEX_END, index_of, key_order};
 pub use price::{
     BINDING_CELLS, ELEMENT_CELLS, GREATEST_TOLD, ITEM_CELLS, PROPERTY_CELLS, REACTION_CELLS,
     ROW_CELLS, SCOPE_CELLS, TEXT_CELLS, UNITS_PER_CELL, price_of, property_price, text_price,
