@@ -29,3 +29,6 @@ pub use price::{
 };
 pub use props::Props;
 pub use values::{Binding, Bindings, Names, PromiseState, Reaction, Reactions, Value, Values};
+
+#[cfg(test)]
+mod tests;

@@ -1,5 +1,5 @@
 //! The properties of an object.
-ghost use Rattle.std.specs.Prelude.{◌≡◌, ◌<◌, [], ◌++◌, ◌∷◌, length, slice_get, Some, OnOk, OnErr, IsOk, IsSome, is_some, false};
+ghost use Rattle.std.specs.Prelude.{◌≡◌, ◌<◌, [], ◌++◌, ◌∷◌, length, slice_get, Some, IfOk, OnOk, OnErr, IsOk, IsSome, is_some, false};
 ghost use Rattle.std.specs.Map.{keys_of};
 ghost use Rattle.std.specs.List.{list_any};
 ghost use Rattle.charged_heap.specs.Keys.{is_key, value_at, with_value, HasDistinctKeys};
@@ -7,7 +7,7 @@ ghost use Rattle.charged_heap.specs.Keys.{is_key, value_at, with_value, HasDisti
 use crate::Value;
 use indexmap::IndexMap;
 use item_list::CloneWhole;
-use ivm_text::Units;
+use ivm_text::{NoMemory, Units};
 use std::alloc::{AllocError, Global};
 use std::marker::Model;
 
@@ -15,7 +15,8 @@ use std::marker::Model;
 /// key stands twice.
 #[derive(Drop)]
 pub struct Props {
-    map: IndexMap<Units, Value>,
+    // Boxed, since most items are no objects, and each item takes the room of the largest kind.
+    map: Box<IndexMap<Units, Value>>,
 }
 
 impl Model for Props {
@@ -25,19 +26,18 @@ impl Model for Props {
 
     ghost Value = { List (List ℕ × script.Value) };
 
-    ghost view = { λ p. p.map.entries };
+    ghost view = { λ p. p.map.value.entries };
 
-    ghost invariant = { λ p. HasDistinctKeys p.map.entries };
+    ghost invariant = { λ p. HasDistinctKeys p.map.value.entries };
 }
 
 impl Props {
-    /// No properties. It takes no memory.
-    pub fn new(alloc: Global) -> Props
-        ensures { result ≡ [] }
+    /// No properties. Only want of memory refuses it.
+    pub fn new(alloc: Global) -> Result<Props, NoMemory>
+        ensures { IfOk result (λ props. props ≡ []) }
     {
-        Props {
-            map: IndexMap::new(alloc),
-        }
+        let map = Box::new(alloc, IndexMap::new(alloc))?;
+        Ok(Props { map })
     }
 
     /// How many properties there are.
