@@ -1,2 +1,6 @@
+pub mod Faults
 pub mod HostText
-pub mod Shape
+pub mod Script
+pub mod Steps
+pub mod Texts
+pub mod Words

@@ -1,62 +1,22 @@
-//! Stand-in.
+//! Host scripts: the text by which a user says which isolates there are, and what is to be run in them.
+//!
+//! Contracts see a `HostScript` as its declarations and commands, in the order of the lines.
+//! Rely on: the answer is the one that the bytes have by `specs/HostText.antt`; only the want of memory is free.
+//! Over `ivm_text` and `indexmap`; under `host_machine`, `ivm_report` and `ivm_cli`.
+//! Begin with `specs/HostText.antt`, then `src/read.rt`.
 #![tactic(auto)]
 
-ghost use Rattle.std.specs.Prelude.{◌≡◌, ◌≢◌, Ok, Err, IfOk, IfErr};
-ghost use Rattle.host_script.specs.HostText.{host_of};
-ghost use Rattle.host_script.specs.Shape.{IsRunnable};
+mod draft;
+mod fault;
+mod lines;
+mod read;
+mod script;
+mod text;
+mod words;
 
-use item_list::Items;
-use ivm_text::{Bytes, Units, Want};
-use std::alloc::Global;
+pub use fault::{HostFault, HostKind};
+pub use read::read_host;
+pub use script::{Command, Commands, HostScript, IsolateDecl, IsolateDecls, What};
 
-#[derive(Debug, Drop)]
-pub struct HostScript {
-    pub isolates: Items<IsolateDecl>,
-    pub commands: Items<Command>,
-}
-
-#[derive(Debug, Drop)]
-pub struct IsolateDecl {
-    pub name: Units,
-    pub limit: u32,
-}
-
-#[derive(Debug, Drop)]
-pub struct Command {
-    pub label: Option<Units>,
-    pub what: What,
-}
-
-#[derive(Debug, Drop)]
-pub enum What {
-    Declare,
-    Context {
-        isolate: u32,
-    },
-    Eval {
-        context: u32,
-        budget: u32,
-        want: Want,
-        text: Bytes,
-    },
-}
-
-#[derive(Debug, Clone, Copy, PartialEq, Eq)]
-pub enum HostKind {
-    TooLong,
-    UnknownCommand,
-}
-
-#[derive(Debug, Clone, Copy, PartialEq, Eq)]
-pub enum HostFault {
-    At { line: u32, kind: HostKind },
-    NoMemory,
-}
-
-pub fn read_host(_alloc: Global, bytes: &[u8]) -> Result<HostScript, HostFault>
-    ensures script { IfOk result (λ script. host_of bytes.now ≡ Ok script) }
-    ensures runnable { IfOk result (λ script. IsRunnable 0 script.commands) }
-    ensures fault { IfErr result (λ fault. fault ≢ HostFault.NoMemory → host_of bytes.now ≡ Err fault) }
-{
-    Err(HostFault::NoMemory)
-}
+#[cfg(test)]
+mod tests;

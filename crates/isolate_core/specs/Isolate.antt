@@ -10,7 +10,6 @@ use Rattle.ivm_text.specs.declared.copies.ErrorKind.TheVariants.{RangeError}
 use Rattle.ivm_text.specs.declared.copies.Leaf.{Leaf}
 use Rattle.ivm_text.specs.declared.copies.Leaf.TheVariants as leaf
 use Rattle.ivm_text.specs.declared.copies.Passed.TheVariants as passed
-use Rattle.ivm_text.specs.declared.copies.Want.{Want}
 use Rattle.ivm_text.specs.declared.copies.Want.TheVariants.{Value}
 use Rattle.ivm_text.specs.declared.refusal.RefusalKind.TheVariants.{Unexpected}
 use Rattle.task_history.specs.declared.task.Task.{Task}
@@ -70,10 +69,20 @@ pub record EvaluatesIn (context : ℕ) (text : List ℕ) (old new : List Names) 
   pub kept : new ≡ slice_set old context names
   pub told : out ≡ outcome_of evaluation
 
+-- whatever the text may come to over these contexts is this
+pub record IsOnlyEvaluation (context : ℕ) (text : List ℕ) (old new : List Names) (out : Outcome) : Type 0 where
+  pub contexts : (others : List Names) (other : Outcome) → EvaluatesIn context text old others other → others ≡ new
+  pub outcomes : (others : List Names) (other : Outcome) → EvaluatesIn context text old others other → other ≡ out
+
 -- what a task of this kind does to the contexts, and its outcome
 abbrev pub Acts : TaskKind → List Names → List Names → Outcome → Type 0
 Acts Context old new out = MakesContext old new out
 Acts (Eval context text want) old new out = EvaluatesIn context text old new out
+
+-- whatever a task of this kind may do to the old contexts is this
+pub record IsOnlyAct (kind : TaskKind) (old new : List Names) (out : Outcome) : Type 0 where
+  pub contexts : (others : List Names) (other : Outcome) → Acts kind old others other → others ≡ new
+  pub outcomes : (others : List Names) (other : Outcome) → Acts kind old others other → other ≡ out
 
 -- the entry of a task: no ticks and no cells are counted yet, and the one out is the reply
 abbrev pub entry_of : Task → Outcome → Entry
@@ -84,3 +93,8 @@ pub record Does (task : Task) (old new : List Names) (entry : Entry) : Type 0 wh
   pub fits : Fits old task
   pub acts : Acts task.kind old new entry.outcome
   pub noted : entry ≡ entry_of task entry.outcome
+
+-- whatever the task may do to the old contexts is this
+pub record IsOnlyDeed (task : Task) (old new : List Names) (entry : Entry) : Type 0 where
+  pub contexts : (others : List Names) (other : Entry) → Does task old others other → others ≡ new
+  pub entries : (others : List Names) (other : Entry) → Does task old others other → other ≡ entry

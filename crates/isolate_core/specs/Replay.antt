@@ -4,7 +4,7 @@ use Rattle.std.specs.Prelude.{◌≡◌, ℕ, List, [], ◌∷◌, ◌++◌, Opt
 use Rattle.small_syntax.specs.Meaning.{Names}
 use Rattle.task_history.specs.declared.task.Task.{Task}
 use Rattle.task_history.specs.declared.record.Entry.{Entry}
-use Rattle.isolate_core.specs.Isolate.{Isolate, Does, Fits, fresh}
+use Rattle.isolate_core.specs.Isolate.{Does, Fits, IsOnlyDeed}
 
 -- the entry is that of its own task
 abbrev pub Stands : Option Task → List Names → List Names → Entry → Type 0
@@ -30,11 +30,16 @@ fresh_cell number limit = record { number = number; limit = limit; journal = [];
 abbrev pub void : Kept → Kept
 void kept = record kept { contexts = None }
 
-abbrev pub ReplaysTo : List Entry → Option (List Names) → Type 0
-ReplaysTo journal (Some contexts) = Replay [] journal contexts
-ReplaysTo journal None = (contexts : List Names) × Replay [] journal contexts
+-- carried out again from nothing, the journal gives these contexts and no others
+pub record GivesAgain (journal : List Entry) (contexts : List Names) : Type 0 where
+  pub replays : Replay [] journal contexts
+  pub only : (others : List Names) → Replay [] journal others → others ≡ contexts
 
--- carried out again from nothing, the journal gives the contexts; that of a void cell gives some
+abbrev pub ReplaysTo : List Entry → Option (List Names) → Type 0
+ReplaysTo journal (Some contexts) = GivesAgain journal contexts
+ReplaysTo journal None = (contexts : List Names) × GivesAgain journal contexts
+
+-- the journal gives the contexts again; that of a void cell gives some
 abbrev pub Replays : Kept → Type 0
 Replays kept = ReplaysTo kept.journal kept.contexts
 
@@ -46,11 +51,12 @@ FitsUnlessVoid (Some contexts) task = Fits contexts task
 abbrev pub MayPerform : Kept → Task → Type 0
 MayPerform kept task = FitsUnlessVoid kept.contexts task
 
--- exactly one entry, that of the task, joined the journal
+-- exactly one entry, the only one that the task may leave, joined the journal
 pub record Performs (task : Task) (old new : Kept) : Type 0 where
   pub before : List Names
   pub after : List Names
   pub was : old.contexts ≡ Some before
   pub entry : Entry
   pub does : Does task before after entry
+  pub only : IsOnlyDeed task before after entry
   pub now : new ≡ record old { journal = old.journal ++ entry ∷ []; contexts = Some after }

@@ -1,7 +1,7 @@
 //! What one task does to the contexts of an isolate.
 ghost use Rattle.std.specs.Prelude.{◌≡◌, ◌<◌, length, IfOk};
 ghost use Rattle.small_syntax.specs.Meaning.{Names};
-ghost use Rattle.isolate_core.specs.Isolate.{Acts, Does, EvaluatesIn, Fits, FitsKind, MakesContext, outcome_of, primitive};
+ghost use Rattle.isolate_core.specs.Isolate.{Acts, Does, EvaluatesIn, Fits, FitsKind, IsOnlyAct, IsOnlyDeed, IsOnlyEvaluation, MakesContext, outcome_of, primitive};
 
 use item_list::{CloneWhole, Items};
 use ivm_text::{Copy, CopyNode, ErrorKind, Leaf, NoMemory, Passed, Refusal, RefusalKind, Units};
@@ -16,7 +16,8 @@ pub type Contexts = Items<Names>;
 /// Carries a task out and gives its entry.
 pub fn carry_out(alloc: Global, contexts: &mut Contexts, task: &Task) -> Result<Entry, NoMemory>
     requires { Fits contexts.old task.now }
-    ensures { IfOk result (λ entry. Does task.now contexts.old contexts.new entry) }
+    ensures does { IfOk result (λ entry. Does task.now contexts.old contexts.new entry) }
+    ensures only { IfOk result (λ entry. IsOnlyDeed task.now contexts.old contexts.new entry) }
 {
     let outcome = act(alloc, contexts, &task.kind)?;
     let reply = Out::Reply {
@@ -36,7 +37,8 @@ pub fn carry_out(alloc: Global, contexts: &mut Contexts, task: &Task) -> Result<
 
 fn act(alloc: Global, contexts: &mut Contexts, kind: &TaskKind) -> Result<Outcome, NoMemory>
     requires { FitsKind contexts.old kind.now }
-    ensures { IfOk result (λ outcome. Acts kind.now contexts.old contexts.new outcome) }
+    ensures acts { IfOk result (λ outcome. Acts kind.now contexts.old contexts.new outcome) }
+    ensures only { IfOk result (λ outcome. IsOnlyAct kind.now contexts.old contexts.new outcome) }
 {
     match kind {
         TaskKind::Context => make_context(alloc, contexts),
@@ -64,7 +66,8 @@ fn evaluate_in(
     text: &[u8],
 ) -> Result<Outcome, NoMemory>
     requires { context < length contexts.old }
-    ensures { IfOk result (λ outcome. EvaluatesIn context text.now contexts.old contexts.new outcome) }
+    ensures evaluates { IfOk result (λ outcome. EvaluatesIn context text.now contexts.old contexts.new outcome) }
+    ensures only { IfOk result (λ outcome. IsOnlyEvaluation context text.now contexts.old contexts.new outcome) }
 {
     let mut names = contexts.replace(context, Names::new(alloc));
     let evaluation = evaluate(alloc, &mut names, text)?;

@@ -1,13 +1,13 @@
 -- Where the words and the bytes are right and neither end failed, the run is done or found no memory.
-use Rattle.std.proofs.Common.{◌≡◌, ◌⊎◌, inl, inr, ℕ, ◌<◌, List, ◌++◌, length, Bool, true, false, Ok, Err, IsOk, IsSomeAnd, Option, Some, None, refl, sym, ap, ◌∙◌, append-nil, length-append, is_ok, arith, subst}
+use Rattle.std.proofs.Common.{◌≡◌, ◌⊎◌, inl, inr, ℕ, List, ◌++◌, length, true, Ok, Err, IsOk, IsSomeAnd, Option, Some, None, refl, sym, ap, ◌∙◌, append-nil, length-append, is_ok, arith, subst}
 use Rattle.std.proofs.lemmas.Bool.{cases_lt}
 use Rattle.std.specs.Io.KnownBytes.{IsAtEnd}
 use Rattle.ivm_io.specs.Transfers.{Reads}
 use Rattle.task_history.specs.declared.record.Record.{Record}
 use Rattle.host_script.specs.HostText.{host_of}
-use Rattle.host_script.specs.declared.HostScript.{HostScript}
-use Rattle.host_script.specs.declared.HostFault.TheVariants.{At}
-use Rattle.host_script.specs.declared.HostKind.{HostKind}
+use Rattle.host_script.specs.declared.script.HostScript.{HostScript}
+use Rattle.host_script.specs.declared.fault.HostFault.TheVariants.{At}
+use Rattle.host_script.specs.declared.fault.HostKind.{HostKind}
 use Rattle.ivm_cli.proofs.HostLaws.{host_of_long}
 use Rattle.ivm_cli.specs.Run.{Asks, Ends, Whole, most}
 use Rattle.ivm_cli.specs.declared.status.Status.{Status}

@@ -1,2 +1,3 @@
 pub mod Completeness
 pub mod HostLaws
+pub mod Orders

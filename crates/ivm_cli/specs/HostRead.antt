@@ -2,8 +2,8 @@
 -- This project's own; docs/CLAIMS.md, "The top call".
 use Rattle.std.specs.Prelude.{◌≡◌, ℕ, List, Ok, Err}
 use Rattle.host_script.specs.HostText.{host_of}
-use Rattle.host_script.specs.Shape.{IsRunnable}
-use Rattle.host_script.specs.declared.HostFault.TheVariants.{At}
+use Rattle.ivm_cli.specs.Runnable.{IsRunnable}
+use Rattle.host_script.specs.declared.fault.HostFault.TheVariants.{At}
 use Rattle.ivm_cli.specs.declared.call.HostRead.{HostRead}
 use Rattle.ivm_cli.specs.declared.call.HostRead.TheVariants.{Script, Fault}
 

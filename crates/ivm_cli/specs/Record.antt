@@ -9,12 +9,12 @@ use Rattle.task_history.specs.declared.task.TaskKind.{TaskKind}
 use Rattle.task_history.specs.declared.task.TaskKind.TheVariants as kind
 use Rattle.task_history.specs.declared.record.Entry.{Entry}
 use Rattle.task_history.specs.declared.record.Record.{Record}
-use Rattle.isolate_core.specs.Replay.{Kept, Replay}
-use Rattle.host_script.specs.declared.HostScript.{HostScript}
-use Rattle.host_script.specs.declared.IsolateDecl.{IsolateDecl}
-use Rattle.host_script.specs.declared.Command.{Command}
-use Rattle.host_script.specs.declared.What.{What}
-use Rattle.host_script.specs.declared.What.TheVariants.{Declare, Context, Eval}
+use Rattle.isolate_core.specs.Replay.{GivesAgain, Kept}
+use Rattle.host_script.specs.declared.script.HostScript.{HostScript}
+use Rattle.host_script.specs.declared.script.IsolateDecl.{IsolateDecl}
+use Rattle.host_script.specs.declared.script.Command.{Command}
+use Rattle.host_script.specs.declared.script.What.{What}
+use Rattle.host_script.specs.declared.script.What.TheVariants.{Declare, Context, Eval}
 
 -- the task of call n
 abbrev pub task : ℕ → ℕ → TaskKind → Task
@@ -37,11 +37,11 @@ abbrev pub tasks_from : ℕ → List Command → List Task
 tasks_from n [] = []
 tasks_from n (command ∷ commands) = listed (task_of n command.what) ++ tasks_from (n + calls command.what) commands
 
--- a journal that has these commands' tasks, in order, and replays
+-- a journal that has these commands' tasks, in order, and gives the names of its isolate again
 pub record IsJournalOf (commands : List Command) (journal : List Entry) : Type 0 where
   pub tasks_are : tasks journal ≡ tasks_from 0 commands
   pub last : List Names
-  pub replays : Replay [] journal last
+  pub replays : GivesAgain journal last
 
 -- one journal where the script has an isolate, and else none
 abbrev pub AreJournalsOf : List IsolateDecl → List Command → List (List Entry) → Type 0

@@ -1,6 +1,6 @@
 -- The texts that the program writes.
 -- This project's own; docs/FORMATS.md, "The report".
-use Rattle.std.specs.Prelude.{ℕ, List, [], ◌∷◌, ◌++◌, slice_get, codes, Bool, Option, None, Some, if◌then◌else◌}
+use Rattle.std.specs.Prelude.{ℕ, List, [], ◌∷◌, ◌++◌, slice_get, codes, Option, None, Some, if◌then◌else◌}
 use Rattle.std.specs.Fmt.{decimal, signed_decimal}
 use Rattle.ivm_text.specs.Text.{utf8_of}
 use Rattle.ivm_text.specs.declared.copies.Copy.{Copy}
@@ -19,10 +19,10 @@ use Rattle.task_history.specs.declared.task.Outcome.{Outcome}
 use Rattle.task_history.specs.declared.task.Outcome.TheVariants as outcome
 use Rattle.task_history.specs.declared.record.Entry.{Entry}
 use Rattle.task_history.specs.declared.record.Record.{Record}
-use Rattle.host_script.specs.declared.HostScript.{HostScript}
-use Rattle.host_script.specs.declared.HostKind.{HostKind}
-use Rattle.host_script.specs.declared.HostKind.TheVariants as host
-use Rattle.host_script.specs.declared.Command.{Command}
+use Rattle.host_script.specs.declared.script.HostScript.{HostScript}
+use Rattle.host_script.specs.declared.fault.HostKind.{HostKind}
+use Rattle.host_script.specs.declared.fault.HostKind.TheVariants as host
+use Rattle.host_script.specs.declared.script.Command.{Command}
 
 -- ---- values
 

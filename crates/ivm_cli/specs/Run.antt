@@ -1,14 +1,14 @@
 -- What a call means to write, and what comes of it.
 -- This project's own; docs/CLAIMS.md, "The top call".
-use Rattle.std.specs.Prelude.{◌≡◌, ℕ, List, [], Ok, Err, Bool, true, false, Option}
+use Rattle.std.specs.Prelude.{◌≡◌, ℕ, List, Ok, Err, Bool, true, false, Option}
 use Rattle.std.specs.Io.KnownBytes.{Appends, Keeps}
 use Rattle.ivm_io.specs.Transfers.{Reads, AppendsPrefix}
 use Rattle.task_history.specs.Lists.{empty_record}
 use Rattle.task_history.specs.declared.record.Record.{Record}
 use Rattle.host_script.specs.HostText.{host_of}
-use Rattle.host_script.specs.declared.HostScript.{HostScript}
-use Rattle.host_script.specs.declared.HostFault.TheVariants.{At}
-use Rattle.host_script.specs.declared.HostKind.{HostKind}
+use Rattle.host_script.specs.declared.script.HostScript.{HostScript}
+use Rattle.host_script.specs.declared.fault.HostFault.TheVariants.{At}
+use Rattle.host_script.specs.declared.fault.HostKind.{HostKind}
 use Rattle.ivm_cli.specs.Record.{IsRecordOf}
 use Rattle.ivm_cli.specs.Report.{report_of, usage_line, bad_host_line}
 use Rattle.ivm_cli.specs.declared.status.Status.{Status}

@@ -5,7 +5,7 @@ ghost use Rattle.ivm_io.specs.Causes.{Rose};
 ghost use Rattle.ivm_io.specs.Transfers.{AppendsPrefix, Reads};
 ghost use Rattle.task_history.specs.Lists.{empty_record};
 ghost use Rattle.host_script.specs.HostText.{host_of};
-ghost use Rattle.host_script.specs.Shape.{IsRunnable};
+ghost use Rattle.ivm_cli.specs.Runnable.{IsRunnable};
 ghost use Rattle.ivm_cli.specs.HostRead.{IsHostRead};
 ghost use Rattle.ivm_cli.specs.Words.{is_run};
 ghost use Rattle.ivm_cli.specs.Record.{IsRecordOf};

@@ -1,7 +1,7 @@
 //! A host script carried out on its one isolate.
 ghost use Rattle.std.specs.Prelude.{◌≡◌, ℕ, ◌≤◌, ◌+◌, ◌^◌, ◌<◌, ◌++◌, length, IfOk, OnOk};
 ghost use Rattle.task_history.specs.Lists.{listed, tasks};
-ghost use Rattle.host_script.specs.Shape.{IsRunnable, MayCome, makes};
+ghost use Rattle.ivm_cli.specs.Runnable.{IsRunnable, MayCome, makes};
 ghost use Rattle.ivm_cli.specs.Record.{IsJournalOf, IsRecordOf, Made, calls, task_of, tasks_from};
 
 use host_script::{Command, HostScript, What};

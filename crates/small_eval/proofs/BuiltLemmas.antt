@@ -1,14 +1,14 @@
 -- A text is built exactly where its program is, and the words of a program that is built are new.
-use Rattle.std.proofs.Common.{◌≡◌, ℕ, ℤ, Bool, true, false, not, List, [], ◌∷◌, ◌++◌, map, ◌||◌, ◌&&◌, Option, None, Some, refl, ap, sym, ◌∙◌, subst, true≢false, append_assoc, append-nil}
+use Rattle.std.proofs.Common.{◌≡◌, ℕ, Bool, true, false, not, List, [], ◌∷◌, ◌++◌, map, ◌||◌, ◌&&◌, Option, None, Some, refl, ap, sym, ◌∙◌, true≢false, append_assoc, append-nil}
 use Rattle.std.specs.List.{list_any}
 use Rattle.std.specs.Option.{option_map}
 use Rattle.std.specs.Str.{bytes_eq}
-use Rattle.small_syntax.specs.Tree.{Tree, number, name, group, binary, Declaration, Text}
+use Rattle.small_syntax.specs.Tree.{Tree, number, name, group, binary, Declaration}
 use Rattle.small_syntax.specs.Order.{steps_of, let_of}
-use Rattle.small_syntax.specs.Meaning.{Names, is_declared, may_be_read, reads_well, ends_well, is_built_after, with_declared}
+use Rattle.small_syntax.specs.Meaning.{Names, is_declared, may_be_read, reads_well, ends_well, is_built_after}
 use Rattle.small_syntax.specs.declared.program.Step.{Step}
 use Rattle.small_syntax.specs.declared.program.Let.{Let}
-use Rattle.small_eval.specs.Steps.{reads_name_well, steps_read_well, steps_end_well, is_line_built, are_lines_built, entries_of, are_new, are_unknown}
+use Rattle.small_eval.specs.Steps.{reads_name_well, steps_read_well, steps_end_well, is_line_built, are_lines_built, are_new, are_unknown}
 
 and_true : (b : Bool) → (b && true) ≡ b
 and_true true = refl
@@ -54,7 +54,7 @@ built_as_text names earlier (d ∷ lets) last =
 
 -- ---- new words
 
-any_append : {X : Type 0} (test : X → Bool) (xs ys : List X) → list_any test (xs ++ ys) ≡ (list_any test xs || list_any test ys)
+pub any_append : {X : Type 0} (test : X → Bool) (xs ys : List X) → list_any test (xs ++ ys) ≡ (list_any test xs || list_any test ys)
 any_append test [] ys = refl
 any_append test (x ∷ xs) ys =
     elim (test x) as (λ b. (b || list_any test (xs ++ ys)) ≡ ((b || list_any test xs) || list_any test ys))
@@ -77,15 +77,15 @@ fresh-push (w ∷ words) word = ap (λ rest. (w, None) ∷ rest) (fresh-push wor
 fresh-append : (names : Names) (words : List (List ℕ)) (word : List ℕ) → (names ++ fresh words) ++ (word, None) ∷ [] ≡ names ++ fresh (words ++ word ∷ [])
 fresh-append names words word = rw append_assoc (ap (λ rest. names ++ rest) (fresh-push words word))
 
-and_left : (a b : Bool) → (a && b) ≡ true → a ≡ true
+pub and_left : (a b : Bool) → (a && b) ≡ true → a ≡ true
 and_left true b h = refl
 and_left false b h = h
 
-and_right : (a b : Bool) → (a && b) ≡ true → b ≡ true
+pub and_right : (a b : Bool) → (a && b) ≡ true → b ≡ true
 and_right true b h = h
 and_right false b h = absurd (true≢false (sym h))
 
-and_both : (a b : Bool) → a ≡ true → b ≡ true → (a && b) ≡ true
+pub and_both : (a b : Bool) → a ≡ true → b ≡ true → (a && b) ≡ true
 and_both a b p q = ap (λ c. c && b) p ∙ q
 
 not_or : (a b : Bool) → not (a || b) ≡ (not a && not b)

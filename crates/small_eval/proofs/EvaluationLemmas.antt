@@ -1,5 +1,5 @@
 -- What evaluating bytes comes to, by what the program that they carry comes to.
-use Rattle.std.proofs.Common.{◌≡◌, ℕ, Bool, true, false, if◌then◌else◌, List, [], ◌++◌, map, refl, ap, sym, ◌∙◌, subst, true≢false}
+use Rattle.std.proofs.Common.{◌≡◌, ℕ, Bool, true, false, if◌then◌else◌, List, [], ◌++◌, refl, ap, sym, ◌∙◌, subst}
 use Rattle.small_syntax.specs.Tree.{Text}
 use Rattle.small_syntax.specs.Spelling.{IsSmallText}
 use Rattle.small_syntax.specs.Order.{program_of}
@@ -9,7 +9,7 @@ use Rattle.small_syntax.specs.declared.evaluation.Evaluation.TheVariants.{Undefi
 use Rattle.small_syntax.specs.declared.program.Program.{Program}
 use Rattle.small_parser.specs.OnlyForm.{IsOnlyForm, IsProgramOf, IsNoSmallText}
 use Rattle.small_eval.specs.Outcome.{IsOnlyOutcome}
-use Rattle.small_eval.specs.Steps.{are_lines_built, run_lines, entries_of, evaluated}
+use Rattle.small_eval.specs.Steps.{run_lines, entries_of, evaluated}
 use Rattle.small_eval.proofs.BuiltLemmas.{built_as_text}
 use Rattle.small_eval.proofs.RunLemmas.{ran_as_text, entries_as_text, ran_is_built}
 

@@ -2,3 +2,4 @@ pub mod NameLemmas
 pub mod BuiltLemmas
 pub mod RunLemmas
 pub mod EvaluationLemmas
+pub mod ReadLemmas

@@ -1,11 +1,9 @@
 -- Records of names, and the look-ups and changes of a map's entries.
-use Rattle.std.proofs.Common.{◌≡◌, ℕ, ℤ, Bool, true, false, cond, List, [], ◌∷◌, ◌++◌, ◌||◌, if◌then◌else◌, Option, None, Some, is_some, refl, ap, sym, ◌∙◌, true≢false, not, append-nil, append_assoc, take, length}
-use Rattle.std.specs.List.{list_any}
+use Rattle.std.proofs.Common.{◌≡◌, ℕ, ℤ, Bool, true, false, cond, List, [], ◌∷◌, ◌++◌, ◌||◌, if◌then◌else◌, Option, None, Some, is_some, refl, ap, sym, ◌∙◌, true≢false, not, append-nil, append_assoc}
 use Rattle.std.specs.Map.{lookup, set_value}
 use Rattle.std.specs.Option.{unwrap_or}
 use Rattle.std.specs.Str.{bytes_eq}
 use Rattle.indexmap.specs.IndexMap.{insert_entry}
-use Rattle.std.proofs.Math.Seq.{take-append_seam}
 use Rattle.small_syntax.specs.Meaning.{Names, is_declared, number_of, with_number}
 use Rattle.small_eval.specs.Steps.{BeginsWith}
 

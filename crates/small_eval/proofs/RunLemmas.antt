@@ -1,16 +1,14 @@
 -- Running the steps of a tree gives the tree's value, and running a program is running its text.
-use Rattle.std.proofs.Common.{◌≡◌, ℕ, ◌^◌, ◌<◌, ℤ, pos, Bool, true, false, nat_lt, if◌then◌else◌, List, [], ◌∷◌, ◌++◌, map, Option, None, Some, refl, ap, sym, ◌∙◌, subst, append_assoc, append-nil, arith}
+use Rattle.std.proofs.Common.{◌≡◌, ℕ, ◌^◌, ◌<◌, ℤ, pos, List, [], ◌∷◌, ◌++◌, map, Option, None, Some, refl, ap, sym, ◌∙◌, append_assoc, append-nil, arith}
 use Rattle.std.specs.Option.{option_map, option_and_then, option_map_or}
-use Rattle.small_syntax.specs.Tree.{Tree, number, name, group, binary, IsExpression, IsSmall, Declaration, Text, EndsWith, Spells}
+use Rattle.small_syntax.specs.Tree.{Tree, number, name, group, binary, IsExpression, Declaration, EndsWith, Spells}
 use Rattle.small_syntax.specs.Order.{steps_of, let_of}
-use Rattle.small_syntax.specs.Meaning.{Names, number_of, with_number, with_declared, is_in_range, applied, value_of, ending_of, run}
-use Rattle.small_syntax.specs.declared.evaluation.Evaluation.{Evaluation}
+use Rattle.small_syntax.specs.Meaning.{Names, number_of, with_number, with_declared, applied, value_of, ending_of, run}
 use Rattle.small_syntax.specs.declared.evaluation.Evaluation.TheVariants as outcome
 use Rattle.small_syntax.specs.declared.token.Token.{Token}
 use Rattle.small_syntax.specs.declared.program.Step.{Step}
-use Rattle.small_syntax.specs.declared.program.Step.TheVariants.{Number, Name, Apply}
-use Rattle.small_syntax.specs.declared.program.Let.{Let}
-use Rattle.small_eval.specs.Steps.{in_range, put, after_step, after_steps, top_of, value_of_steps, ending_of_steps, run_lines, entries_of}
+use Rattle.small_syntax.specs.declared.program.Step.TheVariants.{Apply}
+use Rattle.small_eval.specs.Steps.{in_range, put, after_steps, top_of, value_of_steps, ending_of_steps, run_lines, entries_of}
 use Rattle.std.proofs.lemmas.Bool.Decides.{nat_tests}
 
 -- a number that a text writes is in range

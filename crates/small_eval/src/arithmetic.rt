@@ -6,6 +6,7 @@ ghost use Rattle.small_eval.specs.Steps.{in_range};
 
 use small_syntax::Operator;
 
+// 2^53 - 1
 const GREATEST: i64 = 9_007_199_254_740_991;
 
 /// The number, where it is in range.

@@ -11,6 +11,7 @@ use ivm_text::{NoMemory, Units};
 use small_syntax::{Let, Program, Step, Steps};
 use std::alloc::Global;
 
+/// A name may be read where it has a number, or an earlier line of the text declares it.
 fn may_be_read(names: &Names, earlier: &IndexSet<Units>, word: &Units) -> bool
     ensures { result ≡ may_be_read names.now earlier.now.keys word.now }
 {
@@ -48,6 +49,7 @@ fn steps_end_well(names: &Names, earlier: &IndexSet<Units>, last: &Option<Steps>
     }
 }
 
+/// A line declares a new name, and reads names that may be read.
 fn is_line_built(names: &Names, earlier: &IndexSet<Units>, line: &Let) -> bool
     ensures { result ≡ is_line_built names.now earlier.now.keys line.now }
 {

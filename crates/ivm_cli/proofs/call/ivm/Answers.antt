@@ -1,4 +1,3 @@
-use Rattle.std.proofs.Common.{refl}
 use Rattle.ivm_cli.proofs.Completeness.{complete, done_at_end}
 use Rattle.ivm_cli.proofs.call.ivm.Goals as goal
 

@@ -1,6 +1,6 @@
 use Rattle.std.proofs.Common.{◌≡◌, ℕ, ◌≤◌, ◌++◌, drop}
 use Rattle.task_history.specs.Lists.{tasks}
-use Rattle.host_script.specs.Shape.{IsRunnable}
+use Rattle.ivm_cli.specs.Runnable.{IsRunnable}
 use Rattle.ivm_cli.specs.Record.{Made, tasks_from}
 use Rattle.ivm_cli.proofs.perform.perform_all.Given as goal
 

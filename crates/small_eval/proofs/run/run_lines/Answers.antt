@@ -1,4 +1,4 @@
-use Rattle.std.proofs.Common.{◌≡◌, true, arith}
+use Rattle.std.proofs.Common.{arith}
 use Rattle.std.proofs.lemmas.Grind.{common_steps}
 use Rattle.small_eval.proofs.BuiltLemmas.{unknown_first, unknown_others}
 use Rattle.small_eval.proofs.NameLemmas.{begins_with_set}

@@ -1,10 +1,10 @@
--- What every host script keeps to.
+-- Commands whose tasks fit where they come. No caller needs this.
 -- This project's own; docs/HOST.md, "What a script may hold".
 use Rattle.std.specs.Prelude.{◌≡◌, ℕ, ◌+◌, ◌<◌, ◌≤◌, List, [], ◌∷◌}
 use Rattle.ivm_text.specs.declared.copies.Want.TheVariants.{Value}
-use Rattle.host_script.specs.declared.Command.{Command}
-use Rattle.host_script.specs.declared.What.{What}
-use Rattle.host_script.specs.declared.What.TheVariants.{Declare, Context, Eval}
+use Rattle.host_script.specs.declared.script.Command.{Command}
+use Rattle.host_script.specs.declared.script.What.{What}
+use Rattle.host_script.specs.declared.script.What.TheVariants.{Declare, Context, Eval}
 
 -- where so many contexts are made, the command may come
 abbrev pub MayCome : ℕ → What → Type 0
