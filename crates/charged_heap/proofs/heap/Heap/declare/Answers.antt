@@ -1,0 +1,10 @@
+use Rattle.std.proofs.Common.{arith}
+use Rattle.std.specs.Prelude.{slice_set}
+use Rattle.std.proofs.lemmas.Grind.{common_steps}
+use Rattle.charged_heap.proofs.ClosedLaws.{closed_declared}
+use Rattle.charged_heap.proofs.heap.Heap.declare.Goals as goal
+
+pub returns-clause-closed : goal.returns-clause-closed
+returns-clause-closed c =
+    closed_declared c.args.self.now (record { items = slice_set c.self.inside.items.items c.args.n c.push_binding.new.self; limit = c.self.inside.limit }) c.args.n c.args.name.now c.args.constant
+    (grind (arith, common_steps)) c.requires.there
