@@ -1,0 +1,4 @@
+pub mod Letters
+pub mod Gaps
+pub mod Escapes
+pub mod Numbers
