@@ -1,0 +1,4 @@
+pub mod StringLemmas
+pub mod TableLemmas
+pub mod Longest
+pub mod FrontLemmas

@@ -4,7 +4,7 @@ use Rattle.std.specs.Prelude.{ℕ, Bool, false, ◌||◌, List, [], ◌∷◌, n
 use Rattle.std.specs.Int.{is_in_range}
 use Rattle.unicode_ident.specs.Ident.{is_xid_start, is_xid_continue}
 use Rattle.js_lexer.specs.declared.letters.Begin.{Begin}
-use Rattle.js_lexer.specs.declared.letters.Begin.TheVariants.{Line, White, Word, Digit, Quote, Mark}
+use Rattle.js_lexer.specs.declared.letters.Begin.TheVariants.{Line, White, Slash, Word, Digit, Quote, Mark}
 
 -- the characters of a text, in order
 abbrev pub Text : Type 0
@@ -35,8 +35,8 @@ is_quote c = nat_eq c 39 || nat_eq c 34
 
 -- what a character can begin; Mark is all that is left
 abbrev pub begin_of : ℕ → Begin
-begin_of c = if is_line c then Line else (if is_white c then White else (if starts_word c then Word
-    else (if is_digit c then Digit else (if is_quote c then Quote else Mark))))
+begin_of c = if is_line c then Line else (if is_white c then White else (if nat_eq c 47 then Slash
+    else (if starts_word c then Word else (if is_digit c then Digit else (if is_quote c then Quote else Mark)))))
 
 abbrev pub begins_digit : Text → Bool
 begins_digit [] = false

@@ -26,7 +26,7 @@ digits base n (c ∷ t) =
 -- HexIntegerLiteral, behind its `0x`: at least one digit
 abbrev pub hexadecimal : Text → Option (ℕ × Text)
 hexadecimal [] = None
-hexadecimal (c ∷ t) = if is_hex c then digits 16 0 (c ∷ t) else None
+hexadecimal (c ∷ t) = if is_hex c then digits 16 (digit_value c) t else None
 
 abbrev pub is_x : ℕ → Bool
 is_x c = nat_eq c 120 || nat_eq c 88
@@ -38,4 +38,4 @@ after_zero (c ∷ t) = if is_x c then hexadecimal t else ended 0 (c ∷ t)
 
 -- the number whose first digit is c, and the text behind it; none where it is out of profile
 abbrev pub number : ℕ → Text → Option (ℕ × Text)
-number c t = if nat_eq c 48 then after_zero t else digits 10 0 (c ∷ t)
+number c t = if nat_eq c 48 then after_zero t else digits 10 (digit_value c) t

@@ -8,6 +8,7 @@ ghost use Rattle.js_lexer.specs.Letters.{is_line, is_white, is_digit, starts_wor
 pub(crate) enum Begin {
     Line,
     White,
+    Slash,
     Word,
     Digit,
     Quote,
@@ -61,6 +62,8 @@ pub(crate) fn beginning(c: char) -> Begin
         Begin::Line
     } else if is_space(c) {
         Begin::White
+    } else if c == '/' {
+        Begin::Slash
     } else if word_start(c) {
         Begin::Word
     } else if digit(c) {

@@ -7,9 +7,13 @@
 #![tactic(auto)]
 
 mod escapes;
+mod front;
 mod gaps;
 mod letters;
 mod numbers;
+mod punctuators;
+mod strings;
 mod token;
+mod words;
 
 pub use token::{SyntaxFault, Token, TokenKind, Tokens};
