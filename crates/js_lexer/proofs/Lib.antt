@@ -2,3 +2,5 @@ pub mod StringLemmas
 pub mod TableLemmas
 pub mod Longest
 pub mod FrontLemmas
+pub mod PlaceLemmas
+pub mod ReadingLemmas

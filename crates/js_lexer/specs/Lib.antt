@@ -7,3 +7,5 @@ pub mod Words
 pub mod Punctuators
 pub mod Front
 pub mod Element
+pub mod Tokens
+pub mod Places

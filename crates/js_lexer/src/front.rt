@@ -23,7 +23,7 @@ pub(crate) enum Element<'a> {
     End,
     /// White space, a line terminator or a comment; whether a line terminator is in it.
     Gap(bool, &'a [char]),
-    Token(TokenKind, Units, i64, &'a [char]),
+    Token(TokenKind, Units, u64, &'a [char]),
     Fault(RefusalKind, &'a [char]),
 }
 
@@ -128,7 +128,7 @@ fn number<'a>(alloc: Global, c: char, text: &'a [char], tail: &'a [char]) -> Ele
     ensures within { IsShorter text.now result }
 {
     match read_number(c, tail) {
-        Some((n, rest)) => Element::Token(TokenKind::Num, Units::new(alloc), n as i64, rest),
+        Some((n, rest)) => Element::Token(TokenKind::Num, Units::new(alloc), n, rest),
         None => Element::Fault(RefusalKind::NumberOutOfProfile, text),
     }
 }

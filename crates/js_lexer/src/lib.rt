@@ -10,10 +10,13 @@ mod escapes;
 mod front;
 mod gaps;
 mod letters;
+mod lexer;
 mod numbers;
+mod places;
 mod punctuators;
 mod strings;
 mod token;
 mod words;
 
+pub use lexer::lex;
 pub use token::{SyntaxFault, Token, TokenKind, Tokens};

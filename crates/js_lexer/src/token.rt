@@ -1,5 +1,7 @@
 //! Tokens, and why a text has none.
 
+ghost use Rattle.std.specs.Prelude.{◌≡◌};
+
 use item_list::Items;
 use ivm_text::{NoMemory, Refusal, Units};
 use std::alloc::AllocError;
@@ -43,12 +45,20 @@ pub enum SyntaxFault {
 }
 
 impl From<NoMemory> for SyntaxFault {
+    ghost use Rattle.js_lexer.specs.declared.token.SyntaxFault.TheVariants as faults;
+
+    ghost from_gives = { λ _ fault. fault ≡ faults.NoMemory };
+
     fn from(_: NoMemory) -> SyntaxFault {
         SyntaxFault::NoMemory
     }
 }
 
 impl From<AllocError> for SyntaxFault {
+    ghost use Rattle.js_lexer.specs.declared.token.SyntaxFault.TheVariants as faults;
+
+    ghost from_gives = { λ _ fault. fault ≡ faults.NoMemory };
+
     fn from(_: AllocError) -> SyntaxFault {
         SyntaxFault::NoMemory
     }

@@ -1,4 +1,4 @@
-use Rattle.std.proofs.Common.{sym, ◌∙◌}
+use Rattle.std.proofs.Common.{sym, ◌∙◌, arith}
 use Rattle.js_lexer.proofs.Longest.{behind_shorter}
 use Rattle.js_lexer.proofs.FrontLemmas.{fraction_at, punctuator_at, no_token_at, longest_at}
 use Rattle.js_lexer.proofs.front.mark.Goals as goal
@@ -15,7 +15,7 @@ returns-in_ok-units-in-Some-clause-front c =
 
 pub returns-in_ok-units-in-Some-clause-within : goal.returns-in_ok-units-in-Some-clause-within
 returns-in_ok-units-in-Some-clause-within c =
-    behind_shorter c.args.text.now _ _ (longest_at c.args.text.now _ _ c.in-Some.ensures.value)
+    (behind_shorter c.args.text.now _ _ (longest_at c.args.text.now _ _ c.in-Some.ensures.value), omega arith)
 
 pub returns-in-None-clause-front : goal.returns-in-None-clause-front
 returns-in-None-clause-front c =

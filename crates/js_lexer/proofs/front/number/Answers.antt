@@ -1,12 +1,11 @@
-use Rattle.std.proofs.Common.{arith, w64}
-use Rattle.std.proofs.lemmas.Int.{to_z_pos}
+use Rattle.std.proofs.Common.{refl}
 use Rattle.js_lexer.proofs.FrontLemmas.{numeral_at, other_numeral_at}
 use Rattle.js_lexer.proofs.front.number.Goals as goal
 
 pub returns-in-Some-clause-front : goal.returns-in-Some-clause-front
 returns-in-Some-clause-front c =
     numeral_at c.args.c c.in-Some.n _ c.args.text.now c.args.tail.now _ _ c.requires.text_is c.requires.begins c.new.ensures
-        (to_z_pos w64 c.in-Some.n (omega (arith, c.in-Some.ensures.small))) c.in-Some.ensures.value
+        refl c.in-Some.ensures.value
 
 pub returns-in-None-clause-front : goal.returns-in-None-clause-front
 returns-in-None-clause-front c =
