@@ -4,3 +4,5 @@ pub mod Longest
 pub mod FrontLemmas
 pub mod PlaceLemmas
 pub mod ReadingLemmas
+pub mod Steps
+pub mod OneReading

@@ -9,6 +9,7 @@
 mod escapes;
 mod front;
 mod gaps;
+mod laws;
 mod letters;
 mod lexer;
 mod numbers;
@@ -18,5 +19,6 @@ mod strings;
 mod token;
 mod words;
 
+pub use laws::one_reading;
 pub use lexer::lex;
 pub use token::{SyntaxFault, Token, TokenKind, Tokens};
