@@ -1,5 +1,5 @@
 -- What stands at the front, from the parts that the code reads.
-use Rattle.std.proofs.Common.{◌≡◌, ℕ, ◌<◌, List, [], ◌∷◌, length, Bool, true, false, Option, Some, None, ℤ, pos, sym, subst, ◌∙◌, ap, arith}
+use Rattle.std.proofs.Common.{◌≡◌, ℕ, ◌<◌, List, [], ◌∷◌, length, Bool, true, false, Some, None, ℤ, pos, sym, subst, arith}
 use Rattle.std.proofs.lemmas.List.{nil_from_length}
 use Rattle.ivm_text.specs.Text.{encode_utf16_all}
 use Rattle.ivm_text.specs.declared.refusal.RefusalKind.TheVariants.{BadCharacter, OpenComment, OpenString, BadEscape, NumberOutOfProfile}
@@ -11,7 +11,7 @@ use Rattle.js_lexer.specs.Words.{word_of, behind_word}
 use Rattle.js_lexer.specs.Numbers.{number}
 use Rattle.js_lexer.specs.Strings.{Inside, closed, unclosed, bad}
 use Rattle.js_lexer.specs.Punctuators.{punctuators, first_of, IsLongest, NoneStands, is_fraction}
-use Rattle.js_lexer.specs.Front.{Front, Seen, ended, gap, token, fault, may_mark, text_end, white_space, line_terminator, line_comment, block_comment, open_comment, word, numeral, other_numeral, fraction, whole_string, open_string, bad_escape, punctuator, bad_character}
+use Rattle.js_lexer.specs.Front.{Front, ended, gap, token, fault, may_mark, text_end, white_space, line_terminator, line_comment, block_comment, open_comment, word, numeral, other_numeral, fraction, whole_string, open_string, bad_escape, punctuator, bad_character}
 use Rattle.js_lexer.proofs.Longest.{longest, none_stands, table_falls}
 
 pub end_at : (text : Text) → length text < 1 → Front text ended
@@ -37,15 +37,15 @@ pub word_at : (c : ℕ) (text t u : Text) (units : List ℕ) → text ≡ c ∷ 
     → units ≡ encode_utf16_all (c ∷ word_of t) → u ≡ behind_word t → Front text (token kinds.Word units (pos 0) u)
 word_at c text t u units e b w r =
     subst (λ (s : Text). Front s (token kinds.Word units (pos 0) u)) (sym e)
-        (subst (λ (us : List ℕ). Front (c ∷ t) (token kinds.Word us (pos 0) u)) (sym w)
-            (subst (λ (v : Text). Front (c ∷ t) (token kinds.Word (encode_utf16_all (c ∷ word_of t)) (pos 0) v)) (sym r) (word b)))
+    (subst (λ (us : List ℕ). Front (c ∷ t) (token kinds.Word us (pos 0) u)) (sym w)
+    (subst (λ (v : Text). Front (c ∷ t) (token kinds.Word (encode_utf16_all (c ∷ word_of t)) (pos 0) v)) (sym r) (word b)))
 
 pub numeral_at : (c n : ℕ) (z : ℤ) (text t u : Text) (units : List ℕ) → text ≡ c ∷ t → begin_of c ≡ begins.Digit → units ≡ []
     → z ≡ pos n → number c t ≡ Some (n, u) → Front text (token kinds.Num units z u)
 numeral_at c n z text t u units e b none same is =
     subst (λ (us : List ℕ). Front text (token kinds.Num us z u)) (sym none)
-        (subst (λ (y : ℤ). Front text (token kinds.Num [] y u)) (sym same)
-            (subst (λ (s : Text). Front s (token kinds.Num [] (pos n) u)) (sym e) (numeral b is)))
+    (subst (λ (y : ℤ). Front text (token kinds.Num [] y u)) (sym same)
+    (subst (λ (s : Text). Front s (token kinds.Num [] (pos n) u)) (sym e) (numeral b is)))
 
 pub other_numeral_at : (c : ℕ) (text t : Text) → text ≡ c ∷ t → begin_of c ≡ begins.Digit → number c t ≡ None
     → Front text (fault NumberOutOfProfile text)
@@ -77,7 +77,7 @@ pub punctuator_at : (c : ℕ) (text t p u : Text) (units : List ℕ) → text �
 punctuator_at c text t p u units e m f is same =
     let l : IsLongest punctuators (c ∷ t) p u = subst (λ (s : Text). IsLongest punctuators s p u) e (longest_at text p u f) in
     subst (λ (us : List ℕ). Front text (token kinds.Punct us (pos 0) u)) (sym same)
-        (subst (λ (s : Text). Front s (token kinds.Punct p (pos 0) u)) (sym e) (punctuator m l is))
+    (subst (λ (s : Text). Front s (token kinds.Punct p (pos 0) u)) (sym e) (punctuator m l is))
 
 pub no_token_at : (c : ℕ) (text t : Text) → text ≡ c ∷ t → may_mark (begin_of c) t ≡ true
     → first_of punctuators text ≡ None → Front text (fault BadCharacter text)

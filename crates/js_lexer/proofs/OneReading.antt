@@ -1,13 +1,12 @@
 -- A text is read in one way only.
-use Rattle.std.proofs.Common.{◌≡◌, ℕ, List, [], ◌∷◌, ◌++◌, Bool, false, ◌||◌, Ok, Err, ℤ, refl, sym, ap, subst, ◌∙◌}
-use Rattle.std.specs.Str.{IsUtf8, chars}
+use Rattle.std.proofs.Common.{◌≡◌, ℕ, List, Bool, false, ◌||◌, Ok, Err, refl, ap, subst}
+use Rattle.std.specs.Str.{chars}
 use Rattle.ivm_text.specs.declared.refusal.Refusal.{Refusal}
 use Rattle.ivm_text.specs.declared.refusal.RefusalKind.{RefusalKind}
 use Rattle.js_lexer.specs.declared.token.Token.{Token}
-use Rattle.js_lexer.specs.declared.token.TokenKind.{TokenKind}
 use Rattle.js_lexer.specs.Letters.{Text}
-use Rattle.js_lexer.specs.Front.{Front, Seen, ended, gap, token, fault}
-use Rattle.js_lexer.specs.Tokens.{Reading, after, token_of, place_of, Reads, at_end, past_gap, past_token, at_fault, AreTokens, refusal, IsRefusal, not_utf8, first_fault, HasOneReading}
+use Rattle.js_lexer.specs.Front.{ended, gap, token, fault}
+use Rattle.js_lexer.specs.Tokens.{Reading, place_of, Reads, at_end, past_gap, past_token, at_fault, AreTokens, refusal, IsRefusal, not_utf8, first_fault, HasOneReading}
 use Rattle.js_lexer.proofs.Steps.{one_front}
 
 pub one_answer : {w : Text} {l : Bool} {t : Text} {r s : Reading} → Reads w l t r → Reads w l t s → r ≡ s

@@ -33,8 +33,8 @@ pub over_token : (w t u : Text) (l : Bool) (kind : TokenKind) (units : List ℕ)
     → Front t (token kind units n u) → all ≡ ts ++ token_of kind units n (place_of w t) l ∷ [] → Goes w false u all
 over_token w t u l kind units n ts all goes f e r i =
     subst (λ (us : List Token). Reads w false w (after us r)) (sym e)
-        (subst (Reads w false w) (after_twice ts (token_of kind units n (place_of w t) l ∷ []) r)
-            (goes (after (token_of kind units n (place_of w t) l ∷ []) r) (past_token f i)))
+    (subst (Reads w false w) (after_twice ts (token_of kind units n (place_of w t) l ∷ []) r)
+    (goes (after (token_of kind units n (place_of w t) l ∷ []) r) (past_token f i)))
 
 pub ends_here : (w t : Text) (l : Bool) (ts : List Token) → Goes w l t ts → Front t ended → Reads w false w (Ok ts)
 ends_here w t l ts goes f = subst (λ (us : List Token). Reads w false w (Ok us)) (append-nil ts) (goes (Ok []) (at_end f))
@@ -49,7 +49,7 @@ pub fault_of_bytes : (bytes text : List ℕ) (kind : RefusalKind) (place : ℕ) 
     → IsRefusal bytes (refusal kind place)
 fault_of_bytes bytes text kind place same u (at, reads, is) =
     let i : IsRefusal bytes (refusal kind (place_of (chars bytes) at)) =
-        first_fault u (subst (λ (t : List ℕ). Reads (chars t) false (chars t) (Err (kind, at))) same reads) in
+    first_fault u (subst (λ (t : List ℕ). Reads (chars t) false (chars t) (Err (kind, at))) same reads) in
     subst (λ (n : ℕ). IsRefusal bytes (refusal kind n)) (sym (is ∙ ap (λ (t : List ℕ). place_of (chars t) at) same)) i
 
 pub bytes_are_no_text : (bytes : List ℕ) (place : ℕ) → ¬ (IsUtf8 bytes) → place ≡ fault_place bytes → IsRefusal bytes (refusal BadUtf8 place)

@@ -1,5 +1,5 @@
 -- What stands in a string, or at the front of a text, read backwards: one case for each class of character.
-use Rattle.std.proofs.Common.{◌≡◌, ℕ, ◌+◌, List, [], ◌∷◌, ◌++◌, length, Bool, true, false, not, ◌||◌, ◌⊎◌, inl, inr, Option, Some, None, pos, refl, sym, ap, subst, ◌∙◌, arith}
+use Rattle.std.proofs.Common.{◌≡◌, ℕ, List, [], ◌∷◌, ◌++◌, length, Bool, true, false, not, ◌||◌, Option, Some, None, pos, refl, sym, ap, subst, ◌∙◌, arith}
 use Rattle.std.specs.Prelude.{nat_eq}
 use Rattle.std.specs.Char.Escape.{encode_utf16}
 use Rattle.ivm_text.specs.Text.{encode_utf16_all}
@@ -13,7 +13,7 @@ use Rattle.js_lexer.specs.Escapes.{escape}
 use Rattle.js_lexer.specs.Words.{word_of, behind_word}
 use Rattle.js_lexer.specs.Numbers.{number}
 use Rattle.js_lexer.specs.Strings.{Ending, closed, unclosed, bad, before, Part, quote, line_end, backslash, plain, part_of, units_for, Inside, closes, text_ends, line_ends, lone_backslash, bad_escape, good_escape, character}
-use Rattle.js_lexer.specs.Punctuators.{punctuators, Stands, IsLongest, NoneStands, is_fraction}
+use Rattle.js_lexer.specs.Punctuators.{punctuators, IsLongest, NoneStands, is_fraction}
 use Rattle.js_lexer.specs.Front as front
 use Rattle.js_lexer.specs.Front.{Front, Seen, ended, gap, token, fault, may_mark, no_comment}
 
@@ -44,10 +44,10 @@ within (line_ends {q = q} {c = c} {t = t} h) = subst (λ (p : Part). Behind q c 
 within (lone_backslash {q = q} {c = c} h) = subst (λ (p : Part). Behind q c [] (bad (c ∷ [])) p) (sym h) refl
 within (bad_escape {q = q} {c = c} {d = d} {t = t} h k) =
     subst (λ (p : Part). Behind q c (d ∷ t) (bad (c ∷ d ∷ t)) p) (sym h)
-        (subst (λ (o : Option (Option ℕ × Text)). Escaped q c d t (bad (c ∷ d ∷ t)) o) (sym k) refl)
+    (subst (λ (o : Option (Option ℕ × Text)). Escaped q c d t (bad (c ∷ d ∷ t)) o) (sym k) refl)
 within (good_escape {q = q} {c = c} {d = d} {t = t} {u = u} {code = code} {e = e} h k i) =
     subst (λ (p : Part). Behind q c (d ∷ t) (before (units_for code) e) p) (sym h)
-        (subst (λ (o : Option (Option ℕ × Text)). Escaped q c d t (before (units_for code) e) o) (sym k) (e, refl, i))
+    (subst (λ (o : Option (Option ℕ × Text)). Escaped q c d t (before (units_for code) e) o) (sym k) (e, refl, i))
 within (character {q = q} {c = c} {t = t} {e = e} h i) =
     subst (λ (p : Part). Behind q c t (before (encode_utf16 c) e) p) (sym h) (e, refl, i)
 

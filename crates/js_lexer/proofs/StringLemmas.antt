@@ -4,7 +4,7 @@ use Rattle.std.proofs.lemmas.List.{append-nil, nil_from_length}
 use Rattle.std.specs.Char.Escape.{encode_utf16}
 use Rattle.js_lexer.specs.Letters.{Text}
 use Rattle.js_lexer.specs.Escapes.{escape}
-use Rattle.js_lexer.specs.Strings.{Ending, closed, unclosed, bad, before, Part, quote, line_end, backslash, plain, part_of, units_for, Inside, closes, text_ends, line_ends, lone_backslash, bad_escape, good_escape, character}
+use Rattle.js_lexer.specs.Strings.{Ending, closed, unclosed, bad, before, quote, line_end, backslash, plain, part_of, units_for, Inside, closes, text_ends, line_ends, lone_backslash, bad_escape, good_escape, character}
 
 pub before_nothing : (e : Ending) → before [] e ≡ e
 before_nothing (closed us u) = refl
@@ -16,7 +16,6 @@ before_twice us vs (closed ws u) = ap (λ xs. closed xs u) (sym (append_assoc us
 before_twice us vs unclosed = refl
 before_twice us vs (bad at) = refl
 
-
 pub start : (q : ℕ) (text : Text) (us : List ℕ) → us ≡ [] → (e : Ending) → Inside q text e → Inside q text (before us e)
 start q text us none e i = subst (λ (vs : List ℕ). Inside q text (before vs e)) (sym none) (subst (Inside q text) (sym (before_nothing e)) i)
 
@@ -25,7 +24,7 @@ pub further : (q : ℕ) (text rest after : Text) (us vs all : List ℕ) → ((e 
     → (e : Ending) → Inside q after e → Inside q text (before all e)
 further q text rest after us vs all reached step joined e i =
     subst (λ (ws : List ℕ). Inside q text (before ws e)) (sym joined)
-        (subst (Inside q text) (before_twice us vs e) (reached (before vs e) (step e i)))
+    (subst (Inside q text) (before_twice us vs e) (reached (before vs e) (step e i)))
 
 pub at_end : (q : ℕ) (text rest after : Text) (us : List ℕ) → ((e : Ending) → Inside q rest e → Inside q text (before us e))
     → Inside q rest (closed [] after) → Inside q text (closed us after)

@@ -1,6 +1,6 @@
 -- What the code tells of the front of a text. No caller needs this.
 -- This project's own.
-use Rattle.std.specs.Prelude.{◌≡◌, ℕ, ◌<◌, ◌≤◌, List, [], length, pos, false, Ok, Err, IfSome}
+use Rattle.std.specs.Prelude.{◌≡◌, ℕ, ◌<◌, ◌≤◌, [], length, pos, false, Ok, Err, IfSome}
 use Rattle.ivm_text.specs.Text.{max_number}
 use Rattle.js_lexer.specs.declared.front.Element.{Element}
 use Rattle.js_lexer.specs.declared.front.Element.TheVariants as elements

@@ -1,9 +1,8 @@
 -- What the characters behind a backslash stand for in a string.
 -- ECMA-262, String Literals: EscapeSequence; LineContinuation; docs/SCRIPTS.md, "Strings".
-use Rattle.std.specs.Prelude.{ℕ, ◌+◌, ◌*◌, Bool, ◌&&◌, ◌||◌, List, [], ◌∷◌, nat_eq, nat_lt, nat_le, Option, None, Some, if◌then◌else◌}
+use Rattle.std.specs.Prelude.{ℕ, ◌+◌, ◌*◌, Bool, ◌&&◌, [], ◌∷◌, nat_eq, nat_lt, nat_le, Option, None, Some, if◌then◌else◌}
 use Rattle.std.specs.Char.{digit_value}
 use Rattle.js_lexer.specs.Letters.{Text, is_line, is_digit, begins_digit}
-use Rattle.js_lexer.specs.Gaps.{past}
 
 abbrev pub is_hex : ℕ → Bool
 is_hex c = nat_lt (digit_value c) 16

@@ -1,6 +1,6 @@
 -- What stands at the front of a text.
 -- ECMA-262, Lexical Grammar: InputElementDiv, the longest at its place; docs/SCRIPTS.md, "Tokens".
-use Rattle.std.specs.Prelude.{◌≡◌, ℕ, Bool, true, false, not, ◌&&◌, ◌||◌, List, [], ◌∷◌, nat_eq, Option, None, Some, ℤ, pos}
+use Rattle.std.specs.Prelude.{◌≡◌, ℕ, Bool, true, false, not, ◌||◌, List, [], ◌∷◌, nat_eq, None, Some, ℤ, pos}
 use Rattle.ivm_text.specs.Text.{encode_utf16_all}
 use Rattle.ivm_text.specs.declared.refusal.RefusalKind.{RefusalKind}
 use Rattle.ivm_text.specs.declared.refusal.RefusalKind.TheVariants.{BadCharacter, OpenComment, OpenString, BadEscape, NumberOutOfProfile}
@@ -42,22 +42,17 @@ may_mark begins.Mark t = true
 
 pub data Front : Text → Seen → Type 0 where
   text_end : Front [] ended
-
   -- White Space
   white_space : {c : ℕ} {t : Text} → begin_of c ≡ begins.White → Front (c ∷ t) (gap false t)
-
   -- Line Terminators
   line_terminator : {c : ℕ} {t : Text} → begin_of c ≡ begins.Line → Front (c ∷ t) (gap true t)
-
   -- Comments
   line_comment : {t : Text} → Front (47 ∷ 47 ∷ t) (gap false (to_line t))
   block_comment : {t u : Text} {l : Bool} → past_star false t ≡ Some (l, u) → Front (47 ∷ 42 ∷ t) (gap l u)
   open_comment : {t : Text} → past_star false t ≡ None → Front (47 ∷ 42 ∷ t) (fault OpenComment (47 ∷ 42 ∷ t))
-
   -- Names and Keywords
   word : {c : ℕ} {t : Text} → begin_of c ≡ begins.Word
       → Front (c ∷ t) (token kinds.Word (encode_utf16_all (c ∷ word_of t)) (pos 0) (behind_word t))
-
   -- Numeric Literals
   numeral : {c n : ℕ} {t u : Text} → begin_of c ≡ begins.Digit → number c t ≡ Some (n, u)
       → Front (c ∷ t) (token kinds.Num [] (pos n) u)
@@ -65,7 +60,6 @@ pub data Front : Text → Seen → Type 0 where
       → Front (c ∷ t) (fault NumberOutOfProfile (c ∷ t))
   fraction : {c : ℕ} {t p u : Text} → may_mark (begin_of c) t ≡ true → IsLongest punctuators (c ∷ t) p u
       → is_fraction p u ≡ true → Front (c ∷ t) (fault NumberOutOfProfile (c ∷ t))
-
   -- String Literals
   whole_string : {q : ℕ} {t u : Text} {units : List ℕ} → begin_of q ≡ begins.Quote → Inside q t (closed units u)
       → Front (q ∷ t) (token kinds.Text units (pos 0) u)
@@ -73,11 +67,9 @@ pub data Front : Text → Seen → Type 0 where
       → Front (q ∷ t) (fault OpenString (q ∷ t))
   bad_escape : {q : ℕ} {t at : Text} → begin_of q ≡ begins.Quote → Inside q t (bad at)
       → Front (q ∷ t) (fault BadEscape at)
-
   -- Punctuators
   punctuator : {c : ℕ} {t p u : Text} → may_mark (begin_of c) t ≡ true → IsLongest punctuators (c ∷ t) p u
       → is_fraction p u ≡ false → Front (c ∷ t) (token kinds.Punct p (pos 0) u)
-
   -- and no other character
   bad_character : {c : ℕ} {t : Text} → may_mark (begin_of c) t ≡ true → NoneStands punctuators (c ∷ t)
       → Front (c ∷ t) (fault BadCharacter (c ∷ t))

@@ -1,6 +1,6 @@
 -- Where comments end.
 -- ECMA-262, Comments; docs/SCRIPTS.md, "Gaps".
-use Rattle.std.specs.Prelude.{ℕ, Bool, false, ◌||◌, ◌&&◌, List, [], ◌∷◌, nat_eq, Option, None, Some, if◌then◌else◌}
+use Rattle.std.specs.Prelude.{ℕ, Bool, false, ◌||◌, [], ◌∷◌, nat_eq, Option, None, Some, if◌then◌else◌}
 use Rattle.js_lexer.specs.Letters.{Text, is_line}
 
 -- the text from its first line terminator on

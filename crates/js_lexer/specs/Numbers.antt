@@ -1,6 +1,6 @@
 -- The numbers at the front of a text.
 -- ECMA-262, Numeric Literals, of which whole numbers up to 2^53 - 1 are taken; docs/SCRIPTS.md, "Numbers".
-use Rattle.std.specs.Prelude.{ℕ, ◌+◌, ◌*◌, Bool, false, not, ◌&&◌, ◌||◌, List, [], ◌∷◌, nat_eq, nat_lt, nat_le, Option, None, Some, if◌then◌else◌}
+use Rattle.std.specs.Prelude.{ℕ, ◌+◌, ◌*◌, Bool, false, ◌||◌, [], ◌∷◌, nat_eq, nat_lt, nat_le, Option, None, Some, if◌then◌else◌}
 use Rattle.std.specs.Char.{digit_value}
 use Rattle.ivm_text.specs.Text.{max_number}
 use Rattle.js_lexer.specs.Letters.{Text, is_digit, starts_word}

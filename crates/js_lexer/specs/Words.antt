@@ -1,6 +1,6 @@
 -- The further characters of a word.
 -- ECMA-262, Names and Keywords, without escapes; docs/SCRIPTS.md, "Words".
-use Rattle.std.specs.Prelude.{ℕ, List, [], ◌∷◌, if◌then◌else◌}
+use Rattle.std.specs.Prelude.{[], ◌∷◌, if◌then◌else◌}
 use Rattle.js_lexer.specs.Letters.{Text, continues_word}
 
 -- the characters at the front that continue a word, as many as there are

@@ -7,5 +7,4 @@ ghost use Rattle.js_lexer.specs.Tokens.{HasOneReading};
 /// So `lex` answers `Ok` exactly with the tokens of the text, and `Refused` exactly with its first fault.
 pub fn one_reading()
     ensures { (bytes : List ℕ) → HasOneReading bytes }
-{
-}
+{}

@@ -72,7 +72,11 @@ fn read_digits(base: u32, first: u64, text: &[char]) -> Option<(u64, &[char])>
         }
         rest = tail;
     }
-    if clinging(rest) { None } else { Some((n, rest)) }
+    if clinging(rest) {
+        None
+    } else {
+        Some((n, rest))
+    }
 }
 
 /// Whether something stands here that may not stand at once behind a number.

@@ -77,13 +77,7 @@ fn take_turn<'a>(quote: char, c: char, text: &'a [char], tail: &'a [char]) -> Tu
     Turn::Go(Some(c as u32), tail)
 }
 
-fn escape_turn<'a>(
-    quote: char,
-    c: char,
-    d: char,
-    text: &'a [char],
-    behind: &'a [char],
-) -> Turn<'a>
+fn escape_turn<'a>(quote: char, c: char, d: char, text: &'a [char], behind: &'a [char]) -> Turn<'a>
     requires text_is { text.now ≡ c ∷ d ∷ behind.now }
     requires escapes { part_of quote c ≡ backslash }
 

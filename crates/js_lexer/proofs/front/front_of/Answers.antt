@@ -1,4 +1,3 @@
-use Rattle.std.proofs.Common.{sym, ◌∙◌}
 use Rattle.js_lexer.proofs.FrontLemmas.{line_at, white_at}
 use Rattle.js_lexer.proofs.front.front_of.Goals as goal
 

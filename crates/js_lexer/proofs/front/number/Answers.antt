@@ -5,7 +5,7 @@ use Rattle.js_lexer.proofs.front.number.Goals as goal
 pub returns-in-Some-clause-front : goal.returns-in-Some-clause-front
 returns-in-Some-clause-front c =
     numeral_at c.args.c c.in-Some.n _ c.args.text.now c.args.tail.now _ _ c.requires.text_is c.requires.begins c.new.ensures
-        refl c.in-Some.ensures.value
+    refl c.in-Some.ensures.value
 
 pub returns-in-None-clause-front : goal.returns-in-None-clause-front
 returns-in-None-clause-front c =

@@ -1,4 +1,4 @@
-use Rattle.std.proofs.Common.{◌≡◌, ◌≤◌, length}
+use Rattle.std.proofs.Common.{◌≤◌, length}
 use Rattle.js_lexer.specs.Strings.{Ending, before, Inside}
 use Rattle.js_lexer.proofs.strings.read_string.Given as goal
 

@@ -21,4 +21,4 @@ returns-in-empty-clause-turns c =
 pub returns-clause-turns : goal.returns-clause-turns
 returns-clause-turns c =
     character_at c.args.quote c.args.c c.args.text.now c.args.tail.now c.requires
-        (part-plain c.args.quote c.args.c c.if-c-quote.false c.if-c-eq10.false c.if-c-eq13.false c.if-c-eq92.false)
+    (part-plain c.args.quote c.args.c c.if-c-quote.false c.if-c-eq10.false c.if-c-eq13.false c.if-c-eq92.false)
