@@ -1,0 +1,11 @@
+pub mod Letters
+pub mod Gaps
+pub mod Escapes
+pub mod Numbers
+pub mod Strings
+pub mod Words
+pub mod Punctuators
+pub mod Front
+pub mod Element
+pub mod Tokens
+pub mod Places

@@ -1,0 +1,22 @@
+//! Tests of `js_lexer` by tables: texts with their tokens, or their first fault.
+//!
+//! Contracts see nothing here: it has tests alone.
+//! Rely on: each answer was worked out from the rules in docs/SCRIPTS.md, never from the lexer's own output.
+//! Over `js_lexer`; under no crate.
+//! Begin with `src/reading.rt`, then `src/faults.rt`.
+#![tactic(auto)]
+
+#[cfg(test)]
+mod bytes;
+#[cfg(test)]
+mod faults;
+#[cfg(test)]
+mod gaps;
+#[cfg(test)]
+mod numbers;
+#[cfg(test)]
+mod punctuators;
+#[cfg(test)]
+mod reading;
+#[cfg(test)]
+mod strings;
