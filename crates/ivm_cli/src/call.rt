@@ -77,6 +77,7 @@ pub fn ivm<R, S: Source, K: Sink, G: Gate>(
         (K.written sink.old) (K.written sink.new) result }
 
     ensures usage { result ≡ Status.Usage → is_run (map string_bytes words.now) ≡ false }
+    ensures wrong_words { is_run (map string_bytes words.now) ≡ false → (result ≡ Status.Usage) ⊎ (result ≡ Status.WriteFault) }
     ensures unread { is_run (map string_bytes words.now) ≡ false → source.new ≡ source.old }
     ensures read_fault { result ≡ Status.ReadFault → Rose (S.faults source.old) (S.faults source.new) }
     ensures write_fault { result ≡ Status.WriteFault → Rose (K.faults sink.old) (K.faults sink.new) }
@@ -117,6 +118,7 @@ fn run<S: Source, K: Sink>(alloc: Global, source: &mut S, sink: &mut K, kept: &m
 }
 
 fn deliver<K: Sink>(sink: &mut K, status: Status, text: &[u8]) -> Status
+    ensures either { (result ≡ status) ⊎ (result ≡ Status.WriteFault) }
     ensures whole { result ≢ Status.WriteFault → (result ≡ status) × Appends (K.written sink.old) (K.written sink.new) text.now }
     ensures cut { result ≡ Status.WriteFault → status ≢ Status.WriteFault → Rose (K.faults sink.old) (K.faults sink.new)
         × AppendsPrefix (K.written sink.old) (K.written sink.new) text.now }
