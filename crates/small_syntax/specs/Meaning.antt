@@ -1,69 +1,90 @@
--- What a small text means to a record of names: whether it is built for it, its value, and the record after it.
+-- What a small text means to a record of names and a global object: whether it is built for them, its value, and the record after it.
 -- This project's own; docs/SCRIPTS.md, "Small texts". Numbers are whole; no statement about ECMA-262's.
-use Rattle.std.specs.Prelude.{◌≡◌, ℕ, ◌+◌, ◌-◌, ◌*◌, ◌^◌, ◌<◌, ◌≤◌, List, [], ◌∷◌, ◌++◌, map, Bool, true, false, IsTrue, not, ◌&&◌, ◌||◌, if◌then◌else◌, Option, None, Some, ℤ, pos, negsuc, ◌+ℤ◌, ◌-ℤ◌, ◌*ℤ◌, nat_le, nat_lt}
+use Rattle.std.specs.Prelude.{◌≡◌, ℕ, ◌+◌, ◌-◌, ◌*◌, ◌^◌, ◌<◌, ◌≤◌, List, [], ◌∷◌, ◌++◌, map, Bool, true, false, IsTrue, not, ◌&&◌, ◌||◌, if◌then◌else◌, Option, None, Some, Result, Ok, Err, ℤ, pos, negsuc, ◌+ℤ◌, ◌-ℤ◌, ◌*ℤ◌, nat_le, nat_lt}
 use Rattle.std.specs.List.{list_any, list_all}
-use Rattle.std.specs.Option.{option_and_then, option_map_or}
 use Rattle.std.specs.Str.{bytes_eq}
+use Rattle.ivm_text.specs.declared.copies.Leaf.{Leaf}
+use Rattle.ivm_text.specs.declared.copies.Leaf.TheVariants.{Undefined, Null, Bool as Boolean, Num, Node}
 use Rattle.small_syntax.specs.Tree.{Tree, number, name, group, binary, Declaration, Text}
 use Rattle.small_syntax.specs.Spelling.{IsSmallText}
 use Rattle.small_syntax.specs.declared.evaluation.Evaluation.{Evaluation}
-use Rattle.small_syntax.specs.declared.evaluation.Evaluation.TheVariants.{Undefined, Number, OutOfRange, NotBuilt}
+use Rattle.small_syntax.specs.declared.evaluation.Evaluation.TheVariants.{Value, Throw, NotBuilt}
+use Rattle.small_syntax.specs.declared.evaluation.Thrown.{Thrown}
+use Rattle.small_syntax.specs.declared.evaluation.Thrown.TheVariants.{OutOfRange, WrongKind}
 use Rattle.small_syntax.specs.declared.token.Operator.{Operator}
 use Rattle.small_syntax.specs.declared.token.Operator.TheVariants.{Plus, Minus, Times}
 
--- ---- records of names
+-- ---- records of names, and properties
 
--- the names of a context in the order in which they were declared, each with a number or without one yet
+-- the names of a context in the order in which they were declared, each with a value or without one yet
 abbrev pub Names : Type 0
-Names = List (List ℕ × Option ℤ)
+Names = List (List ℕ × Option Leaf)
 
 abbrev pub is_declared : List ℕ → Names → Bool
 is_declared word names = list_any (λ entry. bytes_eq word entry.0) names
 
--- the number of a name, where it has one
-abbrev pub number_of : List ℕ → Names → Option ℤ
-number_of word [] = None
-number_of word (entry ∷ names) = if bytes_eq word entry.0 then entry.1 else number_of word names
+-- the value of a name, where it has one
+abbrev pub value_in : List ℕ → Names → Option Leaf
+value_in word [] = None
+value_in word (entry ∷ names) = if bytes_eq word entry.0 then entry.1 else value_in word names
 
--- the name has this number now, and keeps its place
-abbrev pub with_number : List ℕ → ℤ → Names → Names
-with_number word n [] = []
-with_number word n (entry ∷ names) = if bytes_eq word entry.0 then (entry.0, Some n) ∷ names else entry ∷ with_number word n names
+-- the name has this value now, and keeps its place
+abbrev pub with_value : List ℕ → Leaf → Names → Names
+with_value word value [] = []
+with_value word value (entry ∷ names) = if bytes_eq word entry.0 then (entry.0, Some value) ∷ names else entry ∷ with_value word value names
 
--- the words enter without numbers
+-- the words enter without values
 abbrev pub with_declared : Names → List Declaration → Names
 with_declared names lets = names ++ map (λ d. (d.word, None)) lets
 
+-- the properties of a global object, in the order of their creation
+abbrev pub Properties : Type 0
+Properties = List (List ℕ × Leaf)
+
+abbrev pub property : List ℕ → Properties → Option Leaf
+property key [] = None
+property key (entry ∷ global) = if bytes_eq key entry.0 then Some entry.1 else property key global
+
+-- a new key goes last, a present key keeps its place
+abbrev pub with_property : List ℕ → Leaf → Properties → Properties
+with_property key value [] = (key, value) ∷ []
+with_property key value (entry ∷ global) = if bytes_eq key entry.0 then (entry.0, value) ∷ global else entry ∷ with_property key value global
+
+-- what a name reads as: by the record where it is declared there, and else by the global object
+abbrev pub read : Names → Properties → List ℕ → Option Leaf
+read names global word = if is_declared word names then value_in word names else property word global
+
 -- ---- texts that are built
 
-abbrev pub is_some_number : Option ℤ → Bool
-is_some_number None = false
-is_some_number (Some n) = true
+abbrev pub is_some_value : Option Leaf → Bool
+is_some_value None = false
+is_some_value (Some value) = true
 
--- it may be read: it has a number, or an earlier `let` declares it
-abbrev pub may_be_read : Names → List (List ℕ) → List ℕ → Bool
-may_be_read names earlier word = is_some_number (number_of word names) || list_any (bytes_eq word) earlier
+-- it may be read: it reads as a value, or an earlier `let` declares it
+abbrev pub may_be_read : Names → Properties → List (List ℕ) → List ℕ → Bool
+may_be_read names global earlier word = is_some_value (read names global word) || list_any (bytes_eq word) earlier
 
 -- each name that the expression reads may be read
-abbrev pub reads_well : Names → List (List ℕ) → Tree → Bool
-reads_well names earlier (number n) = true
-reads_well names earlier (name word) = may_be_read names earlier word
-reads_well names earlier (group inner) = reads_well names earlier inner
-reads_well names earlier (binary op left right) = reads_well names earlier left && reads_well names earlier right
+abbrev pub reads_well : Names → Properties → List (List ℕ) → Tree → Bool
+reads_well names global earlier (number n) = true
+reads_well names global earlier (name word) = may_be_read names global earlier word
+reads_well names global earlier (group inner) = reads_well names global earlier inner
+reads_well names global earlier (binary op left right) = reads_well names global earlier left && reads_well names global earlier right
 
-abbrev pub ends_well : Names → List (List ℕ) → Option Tree → Bool
-ends_well names earlier None = true
-ends_well names earlier (Some tree) = reads_well names earlier tree
+abbrev pub ends_well : Names → Properties → List (List ℕ) → Option Tree → Bool
+ends_well names global earlier None = true
+ends_well names global earlier (Some tree) = reads_well names global earlier tree
 
--- after these earlier words: each `let` declares a new name, and each name that is read may be read
-abbrev pub is_built_after : Names → List (List ℕ) → List Declaration → Option Tree → Bool
-is_built_after names earlier [] last = ends_well names earlier last
-is_built_after names earlier (d ∷ lets) last =
-    not (is_declared d.word names) && not (list_any (bytes_eq d.word) earlier) && reads_well names earlier d.value
-    && is_built_after names (earlier ++ d.word ∷ []) lets last
+-- after these earlier words: each `let` declares a name that the record before the text hasn't, and each name that is read may be read
+-- in the record after it, so that a word of the text itself isn't looked up in the global object
+abbrev pub is_built_after : Names → Names → Properties → List (List ℕ) → List Declaration → Option Tree → Bool
+is_built_after before names global earlier [] last = ends_well names global earlier last
+is_built_after before names global earlier (d ∷ lets) last =
+    not (is_declared d.word before) && not (list_any (bytes_eq d.word) earlier) && reads_well names global earlier d.value
+    && is_built_after before names global (earlier ++ d.word ∷ []) lets last
 
-abbrev pub is_built : Names → Text → Bool
-is_built names text = is_built_after names [] text.lets text.last
+abbrev pub is_built : Names → Properties → Text → Bool
+is_built names global text = is_built_after names (with_declared names text.lets) global [] text.lets text.last
 
 -- ---- values
 
@@ -77,45 +98,71 @@ result_of Plus a b = a +ℤ b
 result_of Minus a b = a -ℤ b
 result_of Times a b = a *ℤ b
 
--- the result, or none where it is out of range
-abbrev pub applied : Operator → ℤ → ℤ → Option ℤ
-applied op a b = if is_in_range (result_of op a b) then Some (result_of op a b) else None
+-- what follows from a value, or the same throw
+infixl 10 ◌>>=◌
+abbrev pub ◌>>=◌ : {A B : Type 0} → Result A Thrown → (A → Result B Thrown) → Result B Thrown
+(Ok value) >>= next = next value
+(Err thrown) >>= next = Err thrown
 
--- the value, or none where a result is out of range
-abbrev pub value_of : Names → Tree → Option ℤ
-value_of names (number n) = Some (pos n)
-value_of names (name word) = number_of word names
-value_of names (group inner) = value_of names inner
-value_of names (binary op left right) = option_and_then (λ a. option_and_then (λ b. applied op a b) (value_of names right)) (value_of names left)
+abbrev pub number_in : Leaf → Result ℤ Thrown
+number_in Undefined = Err WrongKind
+number_in Null = Err WrongKind
+number_in (Boolean b) = Err WrongKind
+number_in (Num n) = Ok n
+number_in (Node n) = Err WrongKind
+
+-- the result of an operator on two values, which have to be numbers
+abbrev pub applied : Operator → Leaf → Leaf → Result Leaf Thrown
+applied op left right = number_in left >>= λ a. number_in right >>= λ b. if is_in_range (result_of op a b) then Ok (Num (result_of op a b)) else Err OutOfRange
+
+-- a text that is built reads no name without a value
+abbrev pub value_read : Option Leaf → Leaf
+value_read (Some value) = value
+value_read None = Undefined
+
+-- the value; both operands are evaluated before the operator asks for their kinds
+abbrev pub value_of : Names → Properties → Tree → Result Leaf Thrown
+value_of names global (number n) = Ok (Num (pos n))
+value_of names global (name word) = Ok (value_read (read names global word))
+value_of names global (group inner) = value_of names global inner
+value_of names global (binary op left right) = value_of names global left >>= λ a. value_of names global right >>= λ b. applied op a b
+
+abbrev pub evaluation_of : Result Leaf Thrown → Evaluation
+evaluation_of (Ok value) = Value value
+evaluation_of (Err thrown) = Throw thrown
+
+-- by a value, or by a throw
+abbrev pub unless_thrown : {A : Type 0} → (Leaf → A) → (Thrown → A) → Result Leaf Thrown → A
+unless_thrown goes stops (Ok value) = goes value
+unless_thrown goes stops (Err thrown) = stops thrown
 
 -- what the end of a text gives
-abbrev pub ending_of : Names → Option Tree → Evaluation
-ending_of names None = Undefined
-ending_of names (Some tree) = option_map_or (λ n. Number n) (value_of names tree) OutOfRange
+abbrev pub ending_of : Names → Properties → Option Tree → Evaluation
+ending_of names global None = Value Undefined
+ending_of names global (Some tree) = evaluation_of (value_of names global tree)
 
--- the `let` lines one by one and then the end; where a result is out of range, the names not yet reached stay without numbers
-abbrev pub run : Names → List Declaration → Option Tree → Names × Evaluation
-run names [] last = (names, ending_of names last)
-run names (d ∷ lets) last =
-    option_map_or (λ n. run (with_number d.word n names) lets last) (value_of names d.value) (names, OutOfRange)
+-- the `let` lines one by one and then the end; after a throw the names not yet reached stay without values
+abbrev pub run : Names → Properties → List Declaration → Option Tree → Names × Evaluation
+run names global [] last = (names, ending_of names global last)
+run names global (d ∷ lets) last =
+    unless_thrown (λ value. run (with_value d.word value names) global lets last) (λ thrown. (names, Throw thrown)) (value_of names global d.value)
 
 -- ---- evaluating bytes
 
--- the bytes are a text that is built for the names, and this is what its run comes to
-pub record Runs (names : Names) (bytes : List ℕ) (evaluation : Evaluation) (after : Names) : Type 0 where
+-- the bytes are a text that is built for the names and the global object, and this is what its run comes to
+pub record Runs (names : Names) (global : Properties) (bytes : List ℕ) (evaluation : Evaluation) (after : Names) : Type 0 where
   pub text : Text
   pub spelled : IsSmallText bytes text
-  pub built : is_built names text ≡ true
-  pub ran : run (with_declared names text.lets) text.lets text.last ≡ (after, evaluation)
+  pub built : is_built names global text ≡ true
+  pub ran : run (with_declared names text.lets) global text.lets text.last ≡ (after, evaluation)
 
 -- they are no such text, and the names stay
-pub record IsRefused (names : Names) (bytes : List ℕ) (after : Names) : Type 0 where
-  pub none : (text : Text) → IsSmallText bytes text → is_built names text ≡ false
+pub record IsRefused (names : Names) (global : Properties) (bytes : List ℕ) (after : Names) : Type 0 where
+  pub none : (text : Text) → IsSmallText bytes text → is_built names global text ≡ false
   pub unchanged : after ≡ names
 
 -- what evaluating these bytes does to a record of names
-abbrev pub Evaluates : Names → List ℕ → Evaluation → Names → Type 0
-Evaluates names bytes Undefined after = Runs names bytes Undefined after
-Evaluates names bytes (Number n) after = Runs names bytes (Number n) after
-Evaluates names bytes OutOfRange after = Runs names bytes OutOfRange after
-Evaluates names bytes NotBuilt after = IsRefused names bytes after
+abbrev pub Evaluates : Names → Properties → List ℕ → Evaluation → Names → Type 0
+Evaluates names global bytes (Value value) after = Runs names global bytes (Value value) after
+Evaluates names global bytes (Throw thrown) after = Runs names global bytes (Throw thrown) after
+Evaluates names global bytes NotBuilt after = IsRefused names global bytes after

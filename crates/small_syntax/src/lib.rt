@@ -10,6 +10,6 @@ mod evaluation;
 mod program;
 mod token;
 
-pub use evaluation::Evaluation;
+pub use evaluation::{Evaluation, Thrown};
 pub use program::{Let, Program, Step, Steps};
 pub use token::{Operator, Token};

@@ -6,8 +6,10 @@
 //! Begin with `src/task.rt`, then `specs/Lists.antt`.
 #![tactic(auto)]
 
+mod outcome;
 mod record;
 mod task;
 
+pub use outcome::{By, Copies, Out, Outcome, Outs};
 pub use record::{Entry, Event, History, Journal, Journals, Record, Settlement};
-pub use task::{Out, Outcome, Outs, Task, TaskKind};
+pub use task::{Act, Answer, Own, PassedList, Task, TaskKind};

@@ -1,11 +1,12 @@
 //! What is kept of a run: the host's history and each isolate's journal.
 ghost use Rattle.std.specs.Prelude.{◌≡◌, []};
 
-use crate::{Out, Outcome, Outs, Task};
-use item_list::Items;
-use std::alloc::Global;
+use crate::{Out, Outcome, Outs, Own, Task};
+use item_list::{CloneWhole, Items};
+use std::alloc::{AllocError, Global};
 
-/// One entry of a journal: a task, what came of it, and all that it sent out.
+/// One entry of a journal: a task, what came of it, and all that it sent out. An entry without a task is
+/// a stop by the host. It holds a disposal where its outcome is `MemoryLimit` or `Disposed`.
 #[derive(Debug, Drop)]
 pub struct Entry {
     pub task: Option<Task>,
@@ -28,13 +29,22 @@ pub type Journals = Items<Journal>;
 pub enum Settlement {
     /// By the entry at a place of an isolate's journal.
     Entry { isolate: u32, place: u32 },
+    /// By the host itself.
+    Own(Own),
 }
 
 /// What the host did or received.
 #[derive(Debug, Drop)]
 pub enum Event {
+    /// A task was posted to an isolate.
     Post { isolate: u32, task: Task },
+    /// An out of an isolate was received.
     Recv { isolate: u32, out: Out },
+    /// An isolate was asked to stop.
+    Ask { isolate: u32 },
+    /// The call released what its label held.
+    Release { call: u32 },
+    /// A call was settled.
     Settle { call: u32, how: Settlement },
 }
 
@@ -59,5 +69,22 @@ impl Record {
             host: Items::new(alloc),
             isolates: Items::new(alloc),
         }
+    }
+}
+
+impl CloneWhole for Entry {
+    fn clone_whole(&self, alloc: Global) -> Result<Entry, AllocError> {
+        let task = match &self.task {
+            Some(task) => Some(task.clone_whole(alloc)?),
+            None => None,
+        };
+        let outcome = self.outcome.clone_whole(alloc)?;
+        Ok(Entry {
+            task,
+            outcome,
+            ticks: self.ticks,
+            cells: self.cells,
+            outs: self.outs.clone_whole(alloc)?,
+        })
     }
 }

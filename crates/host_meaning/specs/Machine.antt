@@ -1,0 +1,236 @@
+-- The host machine: one command of the script after another, and between them any out of any isolate.
+-- This project's own; docs/HOST.md, "What the host does".
+use Rattle.std.specs.Prelude.{◌≡◌, ◌≢◌, ℕ, suc, zero, ◌<◌, List, [], ◌∷◌, ◌++◌, length, Bool, true, false, not, ◌&&◌, ◌==◌, ◌||◌, nat_le, if◌then◌else◌, Option, None, Some, slice_get, slice_index_or, slice_set}
+use Rattle.std.specs.Option.{option_map_or}
+use Rattle.ivm_text.specs.declared.copies.Copy.{Copy}
+use Rattle.ivm_text.specs.declared.copies.Passed.{Passed}
+use Rattle.ivm_text.specs.declared.copies.Passed.TheVariants.{Copy as PassedCopy}
+use Rattle.task_history.specs.Lists.{is_gone, posts, receives, replies, is_asked, has_ended}
+use Rattle.task_history.specs.declared.task.Act.{Act}
+use Rattle.task_history.specs.declared.task.Act.TheVariants as act
+use Rattle.task_history.specs.declared.task.Own.TheVariants.{Disposed}
+use Rattle.task_history.specs.declared.task.Task.{Task}
+use Rattle.task_history.specs.declared.task.TaskKind.{TaskKind}
+use Rattle.task_history.specs.declared.task.TaskKind.TheVariants as kind
+use Rattle.task_history.specs.declared.outcome.Outcome.{Outcome}
+use Rattle.task_history.specs.declared.outcome.Outcome.TheVariants as outcome
+use Rattle.task_history.specs.declared.outcome.Out.{Out}
+use Rattle.task_history.specs.declared.outcome.Out.TheVariants.{Call, Log, AskTable, Reply}
+use Rattle.task_history.specs.declared.record.Settlement.TheVariants.{Entry, Own}
+use Rattle.task_history.specs.declared.record.Event.{Event}
+use Rattle.task_history.specs.declared.record.Event.TheVariants.{Post, Recv, Ask, Release, Settle}
+use Rattle.host_syntax.specs.declared.script.HostScript.{HostScript}
+use Rattle.host_syntax.specs.declared.script.Command.{Command}
+use Rattle.host_syntax.specs.declared.script.HostArgument.{HostArgument}
+use Rattle.host_syntax.specs.declared.script.HostArgument.TheVariants.{Literal}
+use Rattle.host_syntax.specs.declared.script.What.{What}
+use Rattle.host_syntax.specs.declared.script.What.TheVariants as what
+use Rattle.host_syntax.specs.Whole.{context_of}
+use Rattle.host_meaning.specs.declared.moves.Held.{Held}
+use Rattle.host_meaning.specs.declared.moves.Held.TheVariants as held
+use Rattle.host_meaning.specs.declared.moves.Move.{Move}
+use Rattle.host_meaning.specs.declared.moves.Move.TheVariants as move
+use Rattle.host_meaning.specs.Stand.{Stand, beginning, drawn, place, is_there, all_settled, is_label_settled, held_at}
+
+-- ---- what a command waits for
+
+-- the label that a command names isn't settled, or a `wait` has a call that isn't
+abbrev pub is_blocked : Stand → What → Bool
+is_blocked stand what.Declare = false
+is_blocked stand (what.Context isolate) = false
+is_blocked stand (what.Eval context budget want text) = not (is_label_settled stand context)
+is_blocked stand (what.Get target key want) = not (is_label_settled stand target)
+is_blocked stand (what.Set target key value) = not (is_label_settled stand target)
+is_blocked stand (what.Dispose isolate) = false
+is_blocked stand (what.Wait None) = not (all_settled stand)
+is_blocked stand (what.Wait (Some target)) = not (is_label_settled stand target)
+
+-- ---- the target of a call
+
+-- the isolate in which command k makes a context
+abbrev pub isolate_of : HostScript → ℕ → ℕ
+isolate_of script k = option_map_or (λ (command : Command). option_map_or (λ isolate. isolate) (context_of command.what) 0) (slice_get script.commands k) 0
+
+-- the context that a settlement holds, and the row of its global object; 0 where it holds none, which a run beside isolates never meets
+abbrev pub context_in : Option Held → ℕ
+context_in None = 0
+context_in (Some held.Nothing) = 0
+context_in (Some (held.Context context row)) = context
+
+abbrev pub row_in : Option Held → ℕ
+row_in None = 0
+row_in (Some held.Nothing) = 0
+row_in (Some (held.Context context row)) = row
+
+abbrev pub argument_of : HostArgument → Passed
+argument_of (Literal copy) = PassedCopy copy
+
+-- what a call command asks of which isolate
+pub data Request : Type 0 where
+  -- nothing: it is no call
+  none : Request
+  -- a task of this kind, within so many ticks
+  task : ℕ → ℕ → TaskKind → Request
+  -- an end
+  stop : ℕ → Request
+
+-- the ticks that a task may take where the script says nothing
+abbrev pub default_budget : ℕ
+default_budget = 1000000
+
+abbrev pub request : Stand → What → Request
+request stand what.Declare = none
+request stand (what.Context isolate) = task isolate default_budget kind.Context
+request stand (what.Eval context budget want text) = task (isolate_of stand.script context) budget (kind.Eval (context_in (held_at stand context)) text want)
+request stand (what.Get target key want) = task (isolate_of stand.script target) default_budget (kind.Act (row_in (held_at stand target)) (act.Get key want))
+request stand (what.Set target key value) = task (isolate_of stand.script target) default_budget (kind.Act (row_in (held_at stand target)) (act.Set key (argument_of value)))
+request stand (what.Dispose isolate) = stop isolate
+request stand (what.Wait target) = none
+
+-- ---- one command done
+
+-- no number is drawn, and nothing is told
+abbrev pub passing : Stand → Stand
+passing stand = record stand { numbers = stand.numbers ++ None ∷ [] }
+
+-- the next number is drawn, with what its settlement holds if the host settles it at once, and one event
+abbrev pub drawing : Stand → Option Held → List ℕ → Event → Stand
+drawing stand settled stops event = record stand {
+  numbers = stand.numbers ++ Some (drawn stand) ∷ [];
+  calls = stand.calls ++ settled ∷ [];
+  stops = stand.stops ++ stops;
+  history = stand.history ++ event ∷ [];
+}
+
+-- the host refuses the call
+abbrev pub refusing : Stand → Stand
+refusing stand = drawing stand (Some held.Nothing) [] (Settle (drawn stand) (Own Disposed))
+
+-- the task of a call that draws the next number
+abbrev pub task_of : Stand → ℕ → TaskKind → Task
+task_of stand budget kind = record { call = Some (drawn stand); budget = budget; kind = kind }
+
+-- the task is posted
+abbrev pub posting : Stand → ℕ → Task → Stand
+posting stand isolate task = drawing stand None [] (Post isolate task)
+
+-- the isolate is asked to stop, which settles the call
+abbrev pub asking : Stand → ℕ → Stand
+asking stand isolate = drawing stand (Some held.Nothing) (drawn stand ∷ []) (Ask isolate)
+
+-- the numbers that a run may draw
+abbrev pub most_calls : ℕ
+most_calls = 100000
+
+-- a call: refused where its isolate was asked to stop or has told its end
+abbrev pub calling : Stand → Request → Move × Stand
+calling stand none = (move.Own, passing stand)
+calling stand (task isolate budget kind) =
+    if is_gone isolate stand.history then (move.Own, refusing stand)
+    else (move.Post isolate (task_of stand budget kind), posting stand isolate (task_of stand budget kind))
+calling stand (stop isolate) =
+    if is_gone isolate stand.history then (move.Own, refusing stand) else (move.Ask isolate, asking stand isolate)
+
+-- after 100,000 numbers a call draws none
+abbrev pub doing : Stand → Request → Move × Stand
+doing stand request = if nat_le most_calls (drawn stand) then (move.Own, passing stand) else calling stand request
+
+abbrev pub by_command : Stand → Option Command → Move × Stand
+by_command stand None = (move.Blocked, stand)
+by_command stand (Some command) =
+    if is_blocked stand command.what then (move.Blocked, stand) else doing stand (request stand command.what)
+
+-- the next command
+abbrev pub turn : Stand → Move × Stand
+turn stand = by_command stand (slice_get stand.script.commands (place stand))
+
+-- ---- one out received
+
+-- what a settlement by this outcome holds
+abbrev pub held_by : Outcome → Held
+held_by (outcome.Context context row) = held.Context context row
+held_by (outcome.Script script) = held.Nothing
+held_by (outcome.Passed value) = held.Nothing
+held_by outcome.Done = held.Nothing
+held_by (outcome.Throw copy) = held.Nothing
+held_by (outcome.Syntax refusal) = held.Nothing
+held_by (outcome.Timeout ticks) = held.Nothing
+held_by (outcome.MemoryLimit charged asked limit) = held.Nothing
+held_by (outcome.Disposed by) = held.Nothing
+held_by outcome.WrongIsolate = held.Nothing
+held_by outcome.NotTransferable = held.Nothing
+held_by (outcome.NotCopyable kind) = held.Nothing
+
+-- number n was drawn and isn't settled
+abbrev pub is_open : Stand → ℕ → Bool
+is_open stand n = option_map_or (λ settled. not (is_there settled)) (slice_get stand.calls n) false
+
+-- the replies that were received from isolate i
+abbrev pub replies_of : ℕ → List Event → ℕ
+replies_of i history = length (replies (receives i history))
+
+-- the receipt alone
+abbrev pub hearing : Stand → ℕ → Out → Stand
+hearing stand i out = record stand { history = stand.history ++ Recv i out ∷ [] }
+
+-- the receipt, and the settlement of call n by the entry whose reply it is
+abbrev pub settling : Stand → ℕ → Out → ℕ → Outcome → Stand
+settling stand i out n outcome = record stand {
+  calls = slice_set stand.calls n (Some (held_by outcome));
+  history = stand.history ++ Recv i out ∷ Settle n (Entry i (replies_of i stand.history)) ∷ [];
+}
+
+-- a reply settles its call where that was drawn and isn't settled; the other outs aren't built yet
+abbrev pub received : Stand → ℕ → Out → Stand
+received stand i (Call promise to budget act) = hearing stand i (Call promise to budget act)
+received stand i (Log callback args) = hearing stand i (Log callback args)
+received stand i (AskTable callback promise key) = hearing stand i (AskTable callback promise key)
+received stand i (Reply None outcome) = hearing stand i (Reply None outcome)
+received stand i (Reply (Some n) outcome) =
+    if is_open stand n then settling stand i (Reply (Some n) outcome) n outcome else hearing stand i (Reply (Some n) outcome)
+
+abbrev pub received_all : Stand → ℕ → List Out → Stand
+received_all stand i [] = stand
+received_all stand i (out ∷ outs) = received_all (received stand i out) i outs
+
+-- ---- runs
+
+-- a reply; no isolate sends another out yet
+abbrev pub IsReply : Out → Type 0
+IsReply (Call promise to budget act) = ⊥
+IsReply (Log callback args) = ⊥
+IsReply (AskTable callback promise key) = ⊥
+IsReply (Reply call outcome) = Unit {0}
+
+-- the out may be received: it comes from an isolate of the script
+abbrev pub MayReceive : HostScript → ℕ → Out → Type 0
+MayReceive script i out = (i < length script.isolates) × IsReply out
+
+-- one step: the next command, or any out of any isolate
+pub data HostStep (stand : Stand) : Stand → Type 0 where
+  turns : (turn stand).0 ≢ move.Blocked → HostStep stand (turn stand).1
+  receives_one : (i : ℕ) (out : Out) → MayReceive stand.script i out → HostStep stand (received stand i out)
+
+-- what steps lead to
+pub data HostRun (script : HostScript) : Stand → Type 0 where
+  begins : HostRun script (beginning script)
+  goes : {stand next : Stand} → HostRun script stand → HostStep stand next → HostRun script next
+
+-- no command is left
+abbrev pub NoneLeft : Stand → Type 0
+NoneLeft stand = length stand.script.commands ≡ place stand
+
+-- ---- finished
+
+-- as many replies came from isolate i as tasks were posted to it, and one tells its end where it was asked to stop
+abbrev pub has_answered : List Event → ℕ → Bool
+has_answered history i = nat_le (length (posts i history)) (replies_of i history) && (not (is_asked i history) || has_ended i history)
+
+-- these isolates, and all before them, have answered
+abbrev pub have_answered : List Event → ℕ → Bool
+have_answered history zero = true
+have_answered history (suc i) = have_answered history i && has_answered history i
+
+-- nothing is left to be done or to be told: no command, no open call, no task without its reply, no stop without its end
+abbrev pub is_finished : Stand → Bool
+is_finished stand = place stand == length stand.script.commands && all_settled stand && have_answered stand.history (length stand.script.isolates)

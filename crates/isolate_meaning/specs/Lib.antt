@@ -1,0 +1,5 @@
+pub mod State
+pub mod Fits
+pub mod Does
+pub mod Replay
+pub mod Known

@@ -1,0 +1,7 @@
+//! What one isolate is, what a task does to it, and what its journal means: definitions and their laws.
+//!
+//! Contracts see states, tasks and journals as plain values and lists; nothing here knows a heap, a lock or a frame.
+//! Rely on: the laws that stand on the functions of `laws`.
+//! Over `small_syntax` and `task_history`; under `isolate_core` and `host_meaning`.
+//! Begin with `specs/State.antt`, then `specs/Does.antt` and `specs/Replay.antt`.
+#![tactic(auto)]
