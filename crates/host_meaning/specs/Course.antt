@@ -1,6 +1,6 @@
 -- The host beside its isolates: tasks that were posted and wait, outs that were sent and wait, in any order of carrying out and receiving.
 -- This project's own; docs/MAP.md, "The host and its isolates".
-use Rattle.std.specs.Prelude.{◌≡◌, ℕ, ◌+◌, List, [], ◌∷◌, ◌++◌, map, true, Option, Some, slice_get, slice_set}
+use Rattle.std.specs.Prelude.{◌≡◌, ℕ, ◌+◌, List, [], ◌∷◌, ◌++◌, map, true, Some, slice_get, slice_set}
 use Rattle.task_history.specs.Lists.{is_asked}
 use Rattle.task_history.specs.declared.task.Task.{Task}
 use Rattle.task_history.specs.declared.outcome.Out.{Out}

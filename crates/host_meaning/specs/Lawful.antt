@@ -1,9 +1,8 @@
 -- When a record is that of one whole run of a script.
 -- This project's own; docs/CLAIMS.md, "The lawful record".
-use Rattle.std.specs.Prelude.{◌≡◌, ℕ, ◌<◌, ◌≤◌, List, [], ◌∷◌, ◌++◌, length, Bool, true, Option, Some, slice_get}
+use Rattle.std.specs.Prelude.{◌≡◌, ℕ, ◌<◌, ◌≤◌, List, [], ◌∷◌, ◌++◌, length, true, Some, slice_get}
 use Rattle.task_history.specs.Lists.{tasks, outs, posts, receives, is_asked, has_disposal, journal_at}
 use Rattle.task_history.specs.declared.outcome.By.TheVariants.{Host}
-use Rattle.task_history.specs.declared.outcome.Out.{Out}
 use Rattle.task_history.specs.declared.outcome.Outcome.TheVariants.{Disposed}
 use Rattle.task_history.specs.declared.record.Entry.{Entry}
 use Rattle.task_history.specs.declared.record.Event.{Event}

@@ -1,12 +1,10 @@
 -- The host machine: one command of the script after another, and between them any out of any isolate.
 -- This project's own; docs/HOST.md, "What the host does".
-use Rattle.std.specs.Prelude.{◌≡◌, ◌≢◌, ℕ, suc, zero, ◌<◌, List, [], ◌∷◌, ◌++◌, length, Bool, true, false, not, ◌&&◌, ◌==◌, ◌||◌, nat_le, if◌then◌else◌, Option, None, Some, slice_get, slice_index_or, slice_set}
+use Rattle.std.specs.Prelude.{◌≡◌, ◌≢◌, ℕ, suc, zero, ◌<◌, List, [], ◌∷◌, ◌++◌, length, Bool, true, false, not, ◌&&◌, ◌==◌, ◌||◌, nat_le, if◌then◌else◌, Option, None, Some, slice_get, slice_set}
 use Rattle.std.specs.Option.{option_map_or}
-use Rattle.ivm_text.specs.declared.copies.Copy.{Copy}
 use Rattle.ivm_text.specs.declared.copies.Passed.{Passed}
 use Rattle.ivm_text.specs.declared.copies.Passed.TheVariants.{Copy as PassedCopy}
 use Rattle.task_history.specs.Lists.{is_gone, posts, receives, replies, is_asked, has_ended}
-use Rattle.task_history.specs.declared.task.Act.{Act}
 use Rattle.task_history.specs.declared.task.Act.TheVariants as act
 use Rattle.task_history.specs.declared.task.Own.TheVariants.{Disposed}
 use Rattle.task_history.specs.declared.task.Task.{Task}
@@ -18,7 +16,7 @@ use Rattle.task_history.specs.declared.outcome.Out.{Out}
 use Rattle.task_history.specs.declared.outcome.Out.TheVariants.{Call, Log, AskTable, Reply}
 use Rattle.task_history.specs.declared.record.Settlement.TheVariants.{Entry, Own}
 use Rattle.task_history.specs.declared.record.Event.{Event}
-use Rattle.task_history.specs.declared.record.Event.TheVariants.{Post, Recv, Ask, Release, Settle}
+use Rattle.task_history.specs.declared.record.Event.TheVariants.{Post, Recv, Ask, Settle}
 use Rattle.host_syntax.specs.declared.script.HostScript.{HostScript}
 use Rattle.host_syntax.specs.declared.script.Command.{Command}
 use Rattle.host_syntax.specs.declared.script.HostArgument.{HostArgument}
@@ -67,25 +65,25 @@ argument_of (Literal copy) = PassedCopy copy
 
 -- what a call command asks of which isolate
 pub data Request : Type 0 where
-  -- nothing: it is no call
-  none : Request
-  -- a task of this kind, within so many ticks
-  task : ℕ → ℕ → TaskKind → Request
-  -- an end
-  stop : ℕ → Request
+  -- it is no call
+  asks_nothing : Request
+  -- to carry out a task of this kind, within so many ticks
+  asks_task : ℕ → ℕ → TaskKind → Request
+  -- to stop
+  asks_stop : ℕ → Request
 
 -- the ticks that a task may take where the script says nothing
 abbrev pub default_budget : ℕ
 default_budget = 1000000
 
 abbrev pub request : Stand → What → Request
-request stand what.Declare = none
-request stand (what.Context isolate) = task isolate default_budget kind.Context
-request stand (what.Eval context budget want text) = task (isolate_of stand.script context) budget (kind.Eval (context_in (held_at stand context)) text want)
-request stand (what.Get target key want) = task (isolate_of stand.script target) default_budget (kind.Act (row_in (held_at stand target)) (act.Get key want))
-request stand (what.Set target key value) = task (isolate_of stand.script target) default_budget (kind.Act (row_in (held_at stand target)) (act.Set key (argument_of value)))
-request stand (what.Dispose isolate) = stop isolate
-request stand (what.Wait target) = none
+request stand what.Declare = asks_nothing
+request stand (what.Context isolate) = asks_task isolate default_budget kind.Context
+request stand (what.Eval context budget want text) = asks_task (isolate_of stand.script context) budget (kind.Eval (context_in (held_at stand context)) text want)
+request stand (what.Get target key want) = asks_task (isolate_of stand.script target) default_budget (kind.Act (row_in (held_at stand target)) (act.Get key want))
+request stand (what.Set target key value) = asks_task (isolate_of stand.script target) default_budget (kind.Act (row_in (held_at stand target)) (act.Set key (argument_of value)))
+request stand (what.Dispose isolate) = asks_stop isolate
+request stand (what.Wait target) = asks_nothing
 
 -- ---- one command done
 
@@ -124,11 +122,11 @@ most_calls = 100000
 
 -- a call: refused where its isolate was asked to stop or has told its end
 abbrev pub calling : Stand → Request → Move × Stand
-calling stand none = (move.Own, passing stand)
-calling stand (task isolate budget kind) =
+calling stand asks_nothing = (move.Own, passing stand)
+calling stand (asks_task isolate budget kind) =
     if is_gone isolate stand.history then (move.Own, refusing stand)
     else (move.Post isolate (task_of stand budget kind), posting stand isolate (task_of stand budget kind))
-calling stand (stop isolate) =
+calling stand (asks_stop isolate) =
     if is_gone isolate stand.history then (move.Own, refusing stand) else (move.Ask isolate, asking stand isolate)
 
 -- after 100,000 numbers a call draws none
@@ -207,9 +205,9 @@ abbrev pub MayReceive : HostScript → ℕ → Out → Type 0
 MayReceive script i out = (i < length script.isolates) × IsReply out
 
 -- one step: the next command, or any out of any isolate
-pub data HostStep (stand : Stand) : Stand → Type 0 where
-  turns : (turn stand).0 ≢ move.Blocked → HostStep stand (turn stand).1
-  receives_one : (i : ℕ) (out : Out) → MayReceive stand.script i out → HostStep stand (received stand i out)
+pub data HostStep (stand next : Stand) : Type 0 where
+  turns : (turn stand).0 ≢ move.Blocked → next ≡ (turn stand).1 → HostStep stand next
+  receives_one : (i : ℕ) (out : Out) → MayReceive stand.script i out → next ≡ received stand i out → HostStep stand next
 
 -- what steps lead to
 pub data HostRun (script : HostScript) : Stand → Type 0 where

@@ -1,6 +1,6 @@
 -- The run on one thread: each task is carried out as soon as it is posted, and all that it sends is received before the next command.
 -- This project's own; docs/MAP.md, "The host and its isolates".
-use Rattle.std.specs.Prelude.{◌≡◌, ℕ, List, [], ◌∷◌, ◌++◌, true, false, Option, Some, slice_get, slice_set}
+use Rattle.std.specs.Prelude.{◌≡◌, ℕ, [], ◌∷◌, ◌++◌, true, Some, slice_get, slice_set}
 use Rattle.task_history.specs.declared.task.Task.{Task}
 use Rattle.task_history.specs.declared.record.Entry.{Entry}
 use Rattle.isolate_meaning.specs.State.{Isolate, is_ended}

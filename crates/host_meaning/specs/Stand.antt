@@ -1,6 +1,6 @@
 -- Where the host stands in its script, and what it has noted.
 -- This project's own; docs/HOST.md, "What the host does".
-use Rattle.std.specs.Prelude.{ℕ, List, [], length, Option, None, Some, Bool, true, false, slice_get, slice_index_or}
+use Rattle.std.specs.Prelude.{ℕ, List, [], length, Option, None, Some, Bool, true, false, slice_index_or}
 use Rattle.std.specs.List.{list_all}
 use Rattle.std.specs.Option.{option_map_or}
 use Rattle.task_history.specs.declared.record.Event.{Event}
