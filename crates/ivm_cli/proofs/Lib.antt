@@ -1,3 +1,2 @@
 pub mod Completeness
 pub mod HostLaws
-pub mod Orders

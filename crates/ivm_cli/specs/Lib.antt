@@ -1,7 +1,5 @@
-pub mod HostRead
-pub mod Record
-pub mod Report
-pub mod Run
-pub mod Runnable
-pub mod Status
 pub mod Words
+pub mod Status
+pub mod Texts
+pub mod HostRead
+pub mod Run

@@ -6,11 +6,12 @@ use Rattle.ivm_io.specs.Transfers.{Reads, AppendsPrefix}
 use Rattle.task_history.specs.Lists.{empty_record}
 use Rattle.task_history.specs.declared.record.Record.{Record}
 use Rattle.host_script.specs.HostText.{host_of}
-use Rattle.host_script.specs.declared.script.HostScript.{HostScript}
+use Rattle.host_syntax.specs.declared.script.HostScript.{HostScript}
 use Rattle.host_script.specs.declared.fault.HostFault.TheVariants.{At}
 use Rattle.host_script.specs.declared.fault.HostKind.{HostKind}
-use Rattle.ivm_cli.specs.Record.{IsRecordOf}
-use Rattle.ivm_cli.specs.Report.{report_of, usage_line, bad_host_line}
+use Rattle.host_meaning.specs.Lawful.{IsLawful}
+use Rattle.ivm_report.specs.Report.{report_of}
+use Rattle.ivm_cli.specs.Texts.{usage_line, bad_host_line}
 use Rattle.ivm_cli.specs.declared.status.Status.{Status}
 use Rattle.ivm_cli.specs.declared.status.Status.TheVariants.{Done, Usage, BadHost, ReadFault, WriteFault, NoMemory}
 
@@ -36,13 +37,13 @@ pub record NoScript (left rest : Option (List ℕ)) (kept : Record) (text : List
   pub empty : kept ≡ empty_record
   pub says : text ≡ bad_host_line line kind
 
--- they are one, the record is of a run of it, and the text is the report of that record
+-- they are a script, the record is lawful for it, and the text is the report of that record
 pub record Ran (left rest : Option (List ℕ)) (kept : Record) (text : List ℕ) : Type 0 where
   pub bytes : List ℕ
   pub read : Reads most left rest bytes
   pub script : HostScript
   pub is_script : host_of bytes ≡ Ok script
-  pub recorded : IsRecordOf script kept
+  pub lawful : IsLawful script kept
   pub says : text ≡ report_of script kept
 
 -- the text that is to be written with a status, where the words ask for a run and where they don't

@@ -5,19 +5,20 @@ ghost use Rattle.ivm_io.specs.Causes.{Rose};
 ghost use Rattle.ivm_io.specs.Transfers.{AppendsPrefix, Reads};
 ghost use Rattle.task_history.specs.Lists.{empty_record};
 ghost use Rattle.host_script.specs.HostText.{host_of};
-ghost use Rattle.ivm_cli.specs.Runnable.{IsRunnable};
 ghost use Rattle.ivm_cli.specs.HostRead.{IsHostRead};
 ghost use Rattle.ivm_cli.specs.Words.{is_run};
-ghost use Rattle.ivm_cli.specs.Record.{IsRecordOf};
-ghost use Rattle.ivm_cli.specs.Report.{bad_host_line, report_of, usage_line};
+ghost use Rattle.host_meaning.specs.Lawful.{IsLawful};
+ghost use Rattle.ivm_report.specs.Report.{report_of};
+ghost use Rattle.ivm_cli.specs.Texts.{bad_host_line, usage_line};
 ghost use Rattle.ivm_cli.specs.Run.{Asks, Ends, NoScript, Ran, most};
 
 use crate::Status;
-use crate::perform::perform;
-use crate::report::{bad_host, report};
+use crate::one_thread::carry_out;
+use crate::texts::bad_host;
 use crate::words::ask_for_a_run;
 use host_script::{HostFault, HostKind, HostScript, read_host};
 use ivm_io::{Gate, ReadStop, Sink, Source, read_all, write_all};
+use ivm_report::report;
 use ivm_text::NoMemory;
 use std::alloc::Global;
 use task_history::Record;
@@ -138,7 +139,7 @@ fn prepare<S: Source>(alloc: Global, source: &mut S, kept: &mut Record) -> Resul
 {
     match read_script(alloc, source)? {
         HostRead::Script(script) => {
-            let record = perform(alloc, &script)?;
+            let record = carry_out(alloc, &script)?;
             let text = report(alloc, &script, &record)?;
             *kept = record;
             Ok(Answer {

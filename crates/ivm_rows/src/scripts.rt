@@ -14,7 +14,8 @@ fn ample_memory_is_enough(rt: HostRuntime) -> Result<(), Fail> {
         told.text.as_slice(),
         b"c: context\nx: value 42\n".as_slice()
     );
-    assert_eq!(rt; told.kept.host.len(), 0);
+    // for each of the two calls a post, a receipt and a settlement
+    assert_eq!(rt; told.kept.host.len(), 6);
     assert_eq!(rt; told.kept.isolates.len(), 1);
     let entries = match told.kept.isolates.get(0) {
         Some(journal) => journal.len(),
@@ -24,38 +25,48 @@ fn ample_memory_is_enough(rt: HostRuntime) -> Result<(), Fail> {
     Ok(())
 }
 
-static REPORTS: [(&str, &str); 14] = [
+static REPORTS: [(&str, &str); 16] = [
     ("", ""),
     ("# nothing\n\n   \t\n", ""),
     ("isolate a", ""),
-    ("isolate a\ncontext c a", "c: context\n"),
+    ("isolate a\nwait\ncontext c a\nwait c\neval x c : 1\nwait x\nwait\n", "c: context\nx: value 1\n"),
     (
-        "isolate a\r\ncontext c a\r\neval x c : 1 + 1\r\n",
-        "c: context\nx: value 2\n",
+        "isolate a\r\ncontext c a\r\nset s c k : 4\r\n\tget  g\tc k \r\n",
+        "c: context\ns: done\ng: value 4\n",
+    ),
+    // two isolates, each with its own names and properties
+    (
+        "isolate a\nisolate b\ncontext c a\ncontext d b\nset s c n : 7\neval x c : n * 6\nget g d n\neval y d : let n = 1; n + n\n",
+        "c: context\nd: context\ns: done\nx: value 42\ng: value undefined\ny: value 2\n",
     ),
     (
-        "isolate\ta\n  context  c\ta \n# between\n\teval x c : 3",
-        "c: context\nx: value 3\n",
+        "isolate a\nisolate b\ncontext c a\ncontext d b\neval x c : let n = 1; n\neval y d : n\n",
+        "c: context\nd: context\nx: value 1\ny: syntax Unexpected 0\n",
+    ),
+    // two contexts of one isolate share nothing
+    (
+        "isolate a\ncontext c a\ncontext d a\nset s c n : 1\neval x d : n\neval y c : n\n",
+        "c: context\nd: context\ns: done\nx: syntax Unexpected 0\ny: value 1\n",
+    ),
+    // an isolate that was asked to stop refuses every later call, and no other isolate does
+    (
+        "isolate a\ncontext c a\nwait\ndispose d a\neval x c : 1\ndispose e a\n",
+        "c: context\nd: done\nx: disposed\ne: disposed\n",
     ),
     (
-        "isolate a\ncontext c a\neval x c : let n = 2;\neval y c : n * n\n",
-        "c: context\nx: value undefined\ny: value 4\n",
+        "isolate a\nisolate b\ncontext c a\ncontext d b\ndispose x a\neval y c : 1\neval z d : 2\nget g c k\nset s c k : 1\ncontext e a\neval w e : 3\n",
+        "c: context\nd: context\nx: done\ny: disposed\nz: value 2\ng: disposed\ns: disposed\ne: disposed\nw: disposed\n",
     ),
+    ("isolate a\ndispose d a\ncontext c a\n", "d: done\nc: disposed\n"),
+    // isolates may be declared between calls
     (
-        "isolate a\ncontext c a\neval x c : let n = 2; let n = 3;\neval y c : n\neval z c : let n = 4; n\n",
-        "c: context\nx: syntax Unexpected 0\ny: syntax Unexpected 0\nz: value 4\n",
+        "isolate a\ncontext c a\neval x c : 1\nisolate b\ncontext d b\neval y d : 2\n",
+        "c: context\nx: value 1\nd: context\ny: value 2\n",
     ),
+    // a text over lines
     (
-        "isolate a\ncontext c a\neval x c : let k = 1; let n = 9007199254740991 + k; let m = 1;\neval y c : k\neval z c : n\neval w c : let m = 2;\n",
-        "c: context\nx: throw RangeError(\"number out of range\")\ny: value 1\nz: syntax Unexpected 0\nw: syntax Unexpected 0\n",
-    ),
-    (
-        "isolate a\ncontext c a\neval x c :\neval y c : \n",
-        "c: context\nx: value undefined\ny: value undefined\n",
-    ),
-    (
-        "isolate a\ncontext c a\neval x c <<E\n6 * 7\nE\neval y c : 1\n",
-        "c: context\nx: value 42\ny: value 1\n",
+        "isolate a\ncontext c a\neval x c <<E\n6 * 7\nE\nset s c k <<E\n 8 \nE\nget g c k\n",
+        "c: context\nx: value 42\ns: done\ng: value 8\n",
     ),
     (
         "isolate a\ncontext c a\neval x c <<E\n1 +\n1\nE\n",
@@ -71,72 +82,111 @@ static REPORTS: [(&str, &str); 14] = [
     ),
 ];
 
+// What stands behind `isolate a` and `context c a`, and what is written behind `c: context`.
+static FRAGMENTS: [(&str, &str); 15] = [
+    ("eval x c : let n = 2;\neval y c : n * n", "x: value undefined\ny: value 4\n"),
+    (
+        "eval x c : let n = 2; let n = 3;\neval y c : n\neval z c : let n = 4; n",
+        "x: syntax Unexpected 0\ny: syntax Unexpected 0\nz: value 4\n",
+    ),
+    (
+        "eval x c : let k = 1; let n = 9007199254740991 + k; let m = 1;\neval y c : k\neval z c : n\neval w c : let m = 2;",
+        "x: throw RangeError(\"number out of range\")\ny: value 1\nz: syntax Unexpected 0\nw: syntax Unexpected 0\n",
+    ),
+    ("eval x c :\neval y c : ", "x: value undefined\ny: value undefined\n"),
+    // every literal, and a key that isn't there
+    (
+        "set s c k : undefined\nget g c k\nset t c k : null\nget h c k",
+        "s: done\ng: value undefined\nt: done\nh: value null\n",
+    ),
+    (
+        "set s c k : true\nget g c k\nset t c k : false\nget h c k",
+        "s: done\ng: value true\nt: done\nh: value false\n",
+    ),
+    (
+        "set s c k : -9007199254740991\nget g c k\nset t c k :  0 \nget h c k\nget i c l",
+        "s: done\ng: value -9007199254740991\nt: done\nh: value 0\ni: value undefined\n",
+    ),
+    // a key is any word
+    (
+        "set s c a-b.c : 1\nget g c a-b.c\nget h c timeout=1\nget i c <<E\nget j c \u{e9}",
+        "s: done\ng: value 1\nh: value undefined\ni: value undefined\nj: value undefined\n",
+    ),
+    // what the context declares hides the global object's property and leaves it as it is
+    (
+        "set s c n : 1\neval x c : n\neval y c : let n = 2; n\neval z c : n\nget g c n",
+        "s: done\nx: value 1\ny: value 2\nz: value 2\ng: value 1\n",
+    ),
+    // values that are no numbers may be read and kept, and no operator takes them
+    (
+        "set s c b : true\neval x c : b\neval y c : let d = b; d\neval z c : b + 1\neval w c : 1 - b",
+        "s: done\nx: value true\ny: value true\nz: throw TypeError(\"wrong kind of operand\")\nw: throw TypeError(\"wrong kind of operand\")\n",
+    ),
+    // both operands are evaluated before their kinds are asked
+    (
+        "set s c b : null\neval x c : b + (9007199254740991 + 1)\neval y c : (b * 1) + (9007199254740991 + 1)",
+        "s: done\nx: throw RangeError(\"number out of range\")\ny: throw TypeError(\"wrong kind of operand\")\n",
+    ),
+    // a name that the text itself declares isn't looked up in the global object
+    ("set s c g : 5\neval x c : let a = g; let g = 1;", "s: done\nx: syntax Unexpected 0\n"),
+    // a name without a value hides a property
+    (
+        "eval x c : let n = 9007199254740991 + 1;\nset s c n : 3\neval y c : n\nget g c n",
+        "x: throw RangeError(\"number out of range\")\ns: done\ny: syntax Unexpected 0\ng: value 3\n",
+    ),
+    // labels are names of calls; a wait for any of them goes on
+    ("eval x c : 1\nwait x\nget g c k\nwait g\nwait c", "x: value 1\ng: value undefined\n"),
+    ("context d a\neval x d : 1\neval y c : 2", "d: context\nx: value 1\ny: value 2\n"),
+];
+
 #[test]
 fn scripts_are_reported(rt: HostRuntime) -> Result<(), Fail> {
     for (script, report) in REPORTS {
         assert!(rt; tells(&rt, script, Status::Done, report)?, "at {script}");
     }
+    for (fragment, rest) in FRAGMENTS {
+        let script = format!(in rt.alloc(); "isolate a\ncontext c a\n{fragment}\n")?;
+        let report = format!(in rt.alloc(); "c: context\n{rest}")?;
+        assert!(rt; tells(&rt, &script, Status::Done, &report)?, "at {script}");
+    }
     Ok(())
 }
 
-static FAULTS: [(&str, &str); 24] = [
-    ("frobnicate x", "1"),
-    ("isolate", "1"),
-    ("isolate 9a", "1"),
-    ("isolate a_b c", "1"),
-    ("isolate abcdefghijklmnopqrstuvwxyz0123456", "1"),
-    ("context c a", "1"),
-    ("eval x c : 1", "1"),
-    ("isolate a\nisolate b", "2"),
-    ("isolate a\ncontext c b", "2"),
-    ("isolate a\ncontext a a", "2"),
-    ("isolate a\neval x c : 1", "2"),
-    ("isolate a\ncontext c a\ncontext d a", "3"),
-    ("isolate a\ncontext c a\neval x c", "3"),
-    ("isolate a\ncontext c a\neval x c 1", "3"),
-    ("isolate a\ncontext c a\neval x a : 1", "3"),
-    ("isolate a\ncontext c a\neval c c : 1", "3"),
-    ("isolate a\ncontext c a\neval x c :1", "3"),
-    ("isolate a\ncontext c a\neval x c :\t1", "3"),
-    ("isolate a\ncontext c a\neval x c <<E\n1\n", "3"),
-    ("isolate a\ncontext c a\neval x c <<\n1\n", "3"),
-    ("isolate a\ncontext c a\neval x c : 1\neval x c : 1", "4"),
-    ("\n# c\nisolate a\n\nisolate b", "5"),
-    ("isolate a limit=2000", "1"),
-    ("isolate a\ncontext c a\neval x c timeout=10 : 1", "3"),
+static FAULTS: [(&str, &str); 20] = [
+    ("frobnicate x", "1: UnknownCommand"),
+    ("isolate", "1: BadWords"),
+    ("isolate 9a", "1: BadName"),
+    ("isolate a\nisolate a", "2: NameTaken"),
+    ("context c a", "1: UnknownName"),
+    ("isolate a\ncontext c a\ncontext d c", "3: WrongKind"),
+    ("isolate a limit=999", "1: BadWords"),
+    ("isolate a\ncontext c a\neval x c", "3: BadWords"),
+    ("isolate a\ncontext c a\neval x c <<E\n1 + 1", "3: OpenText"),
+    ("isolate a\ncontext c a\neval x c timeout=10 : 1", "3: BadWords"),
+    ("isolate a\ncontext c a\nset s c k : [1]", "3: BadLiteral"),
+    ("isolate a\ncontext c a\nset s c k : -0", "3: BadLiteral"),
+    ("isolate a\ncontext c a\nset s c k : 9007199254740992", "3: BadLiteral"),
+    ("isolate a\ncontext c a\nget g c", "3: BadWords"),
+    ("isolate a\ncontext c a\nget g x k", "3: UnknownName"),
+    ("isolate a\ncontext c a\ndispose d c", "3: WrongKind"),
+    ("isolate a\nwait a", "2: WrongKind"),
+    ("isolate a\nwait c\ncontext c a", "2: UnknownName"),
+    ("isolate a\ncontext c a\nrun r c c", "3: UnknownCommand"),
+    ("# one\n\nisolate a\ncontext c a\neval x c : 1\neval x c : 1", "6: NameTaken"),
 ];
 
 #[test]
 fn the_first_faulty_line_is_told(rt: HostRuntime) -> Result<(), Fail> {
-    for (script, line) in FAULTS {
-        let text = format!(in rt.alloc(); "bad host script: line {line}: UnknownCommand\n")?;
+    for (script, fault) in FAULTS {
+        let text = format!(in rt.alloc(); "bad host script: line {fault}\n")?;
         assert!(rt; tells(&rt, script, Status::BadHost, &text)?, "at {script}");
     }
-    Ok(())
-}
-
-#[test]
-fn bytes_that_are_no_text_are_told_at_their_line(rt: HostRuntime) -> Result<(), Fail> {
     let told = told(&rt, b"isolate a\n# \xff\ncontext c a\n")?;
     assert_eq!(rt; told.status, Status::BadHost);
     assert_eq!(rt;
         told.text.as_slice(),
-        b"bad host script: line 2: UnknownCommand\n".as_slice()
+        b"bad host script: line 2: BadUtf8\n".as_slice()
     );
-    Ok(())
-}
-
-#[test]
-fn a_script_has_at_most_1000_evals(rt: HostRuntime) -> Result<(), Fail> {
-    let mut script = String::from_str(rt.alloc(), "isolate a\ncontext c a\n")?;
-    for n in 0..1000 {
-        let line = format!(in rt.alloc(); "eval x{n} c : {n}\n")?;
-        script.push_str(&line)?;
-    }
-    assert_eq!(rt; told(&rt, script.as_bytes())?.status, Status::Done);
-    script.push_str("eval y c : 1\n")?;
-    let text = "bad host script: line 1003: UnknownCommand\n";
-    assert!(rt; tells(&rt, &script, Status::BadHost, text)?);
     Ok(())
 }
 
@@ -154,5 +204,38 @@ fn a_script_has_at_most_4194304_bytes(rt: HostRuntime) -> Result<(), Fail> {
         told.text.as_slice(),
         b"bad host script: line 0: TooLong\n".as_slice()
     );
+    Ok(())
+}
+
+#[test]
+fn isolates_have_at_most_16000000_cells_together(rt: HostRuntime) -> Result<(), Fail> {
+    let mut script = String::new(rt.alloc());
+    let mut report = String::new(rt.alloc());
+    for n in 0..16 {
+        script.push_str(&format!(in rt.alloc(); "isolate i{n}\ncontext c{n} i{n}\n")?)?;
+        report.push_str(&format!(in rt.alloc(); "c{n}: context\n")?)?;
+    }
+    assert!(rt; tells(&rt, &script, Status::Done, &report)?);
+    // 64 isolates, and a 65th
+    for n in 16..65 {
+        script.push_str(&format!(in rt.alloc(); "isolate i{n}\n")?)?;
+    }
+    let text = "bad host script: line 33: TotalCells\n";
+    assert!(rt; tells(&rt, &script, Status::BadHost, text)?);
+    Ok(())
+}
+
+#[test]
+fn a_call_after_100000_draws_no_number(rt: HostRuntime) -> Result<(), Fail> {
+    let mut script = String::from_str(rt.alloc(), "isolate a\ncontext c a\n")?;
+    let mut report = String::from_str(rt.alloc(), "c: context\n")?;
+    for n in 1..100_000 {
+        script.push_str(&format!(in rt.alloc(); "get g{n} c k\n")?)?;
+        report.push_str(&format!(in rt.alloc(); "g{n}: value undefined\n")?)?;
+    }
+    // without a number it waits for nothing, and changes nothing; not even a refusal of its isolate is asked for
+    script.push_str("set s c k : 1\ndispose d a\nwait s\nget h c k\n")?;
+    report.push_str("s: too many calls\nd: too many calls\nh: too many calls\n")?;
+    assert!(rt; tells(&rt, &script, Status::Done, &report)?);
     Ok(())
 }

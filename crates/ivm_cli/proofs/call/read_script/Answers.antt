@@ -1,6 +1,5 @@
 use Rattle.std.proofs.Common.{Err, ap, arith}
 use Rattle.ivm_cli.proofs.HostLaws.{host_of_long}
-use Rattle.ivm_cli.proofs.Orders.{runnable_in_order}
 use Rattle.ivm_cli.proofs.call.read_script.Goals as goal
 
 pub returns-in-Err-TooLong-clause-ok : goal.returns-in-Err-TooLong-clause-ok
@@ -12,4 +11,4 @@ pub returns-in-Ok-read_host-clause-ok : goal.returns-in-Ok-read_host-clause-ok
 returns-in-Ok-read_host-clause-ok g c =
     let bytes = c.in-Ok.bytes.items in
     let meant = rw c.deref.ensures.value at c.in-Ok-read_host.ensures.exact in
-    (bytes, c.in-Ok.ensures.ok.1, (meant, runnable_in_order c.in-Ok-read_host.script.commands c.in-Ok-read_host.ensures.whole.commands))
+    (bytes, c.in-Ok.ensures.ok.1, (meant, c.in-Ok-read_host.ensures.whole))
