@@ -3,3 +3,4 @@ pub mod Status
 pub mod Texts
 pub mod HostRead
 pub mod Run
+pub mod Driving

@@ -1,5 +1,11 @@
 //! A host script carried out on one thread: each task as soon as it is posted, each stop as soon as it is asked for.
-ghost use Rattle.std.specs.Prelude.{◌≡◌, ◌<◌, length, map, IfOk, OnOk};
+ghost use Rattle.std.specs.Prelude.{◌≡◌, ◌<◌, ◌≤◌, length, map, IfOk, OnOk};
+ghost use Rattle.isolate_meaning.specs.Replay.{Kept, MayPerform, Performs, stopped};
+ghost use Rattle.host_syntax.specs.Whole.{IsWhole};
+ghost use Rattle.host_meaning.specs.Lawful.{IsLawful};
+ghost use Rattle.host_meaning.specs.Machine.{received_all};
+ghost use Rattle.host_laws.specs.Driving.{fresh_cells, outs_at};
+ghost use Rattle.ivm_cli.specs.Driving.{AreReplies};
 
 use host_machine::Host;
 use host_meaning::Move;
@@ -8,7 +14,7 @@ use isolate_core::Cell;
 use item_list::Items;
 use ivm_text::NoMemory;
 use std::alloc::Global;
-use task_history::{Journals, Record, Task};
+use task_history::{Journals, Out, Record, Task};
 
 /// The record of a whole run of the script.
 pub fn carry_out(alloc: Global, script: &HostScript) -> Result<Record, NoMemory>
@@ -34,42 +40,68 @@ pub fn carry_out(alloc: Global, script: &HostScript) -> Result<Record, NoMemory>
 }
 
 // A fresh cell for each isolate, in the order of their numbers.
-fn fresh_cells(alloc: Global, decls: &[IsolateDecl]) -> Result<Vec<Cell>, NoMemory> {
+fn fresh_cells(alloc: Global, decls: &[IsolateDecl]) -> Result<Vec<Cell>, NoMemory>
+    requires { length decls.now ≤ 64 }
+    ensures { IfOk result (λ cells. cells.items ≡ fresh_cells 0 decls.now) }
+{
     let mut cells = Vec::new(alloc);
-    let mut number = 0;
-    for decl in decls {
-        cells.push(Cell::new(alloc, number, decl.limit)?)?;
-        number += 1;
+    for (number, decl) in decls.iter().enumerate() {
+        cells.push(Cell::new(alloc, number as u32, decl.limit)?)?;
     }
     Ok(cells)
 }
 
 // Performs a task, and has the host receive all that it sent out.
-fn perform(host: &mut Host, cell: &mut Cell, isolate: u32, task: &Task) -> Result<(), NoMemory> {
-    let before = cell.journal().len();
+fn perform(host: &mut Host, cell: &mut Cell, isolate: u32, task: &Task) -> Result<(), NoMemory>
+    requires fits { MayPerform cell.old task.now }
+    requires within { isolate < length host.old.script.isolates }
+    ensures cell { OnOk result (Performs task.now cell.old cell.new) }
+    ensures host { OnOk result (host.new ≡ received_all host.old isolate (outs_at cell.new.journal (length cell.old.journal))) }
+{
+    let place = cell.journal().len();
     cell.perform(task)?;
-    receive_from(host, cell, isolate, before)
+    receive_from(host, cell, isolate, place)
 }
 
 // Stops an isolate, and has the host receive all that it sent out.
-fn stop(host: &mut Host, cell: &mut Cell, isolate: u32) -> Result<(), NoMemory> {
-    let before = cell.journal().len();
+fn stop(host: &mut Host, cell: &mut Cell, isolate: u32) -> Result<(), NoMemory>
+    requires within { isolate < length host.old.script.isolates }
+    ensures cell { cell.new ≡ stopped cell.old }
+    ensures host { OnOk result (host.new ≡ received_all host.old isolate (outs_at cell.new.journal (length cell.old.journal))) }
+{
+    let place = cell.journal().len();
     cell.dispose();
-    receive_from(host, cell, isolate, before)
+    receive_from(host, cell, isolate, place)
 }
 
 // Has the host receive the outs of the entry at a place, if there is one.
-fn receive_from(host: &mut Host, cell: &Cell, isolate: u32, place: u32) -> Result<(), NoMemory> {
-    if let Some(entry) = cell.journal().get(place) {
-        for out in entry.outs.as_slice() {
-            host.receive(isolate, out)?;
-        }
+fn receive_from(host: &mut Host, cell: &Cell, isolate: u32, place: u32) -> Result<(), NoMemory>
+    requires within { isolate < length host.old.script.isolates }
+    requires replies { AreReplies (outs_at cell.now.journal place) }
+    ensures { OnOk result (host.new ≡ received_all host.old isolate (outs_at cell.now.journal place)) }
+{
+    match cell.journal().get(place) {
+        Some(entry) => receive_all(host, isolate, entry.outs.as_slice()),
+        None => Ok(()),
+    }
+}
+
+// Has the host receive these outs of an isolate, in their order.
+fn receive_all(host: &mut Host, isolate: u32, outs: &[Out]) -> Result<(), NoMemory>
+    requires within { isolate < length host.old.script.isolates }
+    requires replies { AreReplies outs.now }
+    ensures { OnOk result (host.new ≡ received_all host.old isolate outs.now) }
+{
+    for out in outs {
+        host.receive(isolate, out)?;
     }
     Ok(())
 }
 
 // The journals of cells that are done with.
-fn journals(alloc: Global, cells: Vec<Cell>) -> Result<Journals, NoMemory> {
+fn journals(alloc: Global, cells: Vec<Cell>) -> Result<Journals, NoMemory>
+    ensures { IfOk result (λ journals. journals ≡ map (λ (cell : Kept). cell.journal) cells.items) }
+{
     let mut journals = Items::new(alloc);
     for cell in cells {
         journals.push(cell.into_journal())?;

@@ -14,3 +14,6 @@ mod values;
 
 pub use lines::report;
 pub use numbers::push_decimal;
+
+#[cfg(test)]
+mod tests;
