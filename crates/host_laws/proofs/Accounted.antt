@@ -1,0 +1,1 @@
+-- What became of each number that was drawn.

@@ -1,0 +1,1 @@
+-- What a posted task names was told by its isolate.

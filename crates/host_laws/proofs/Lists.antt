@@ -1,0 +1,1 @@
+-- The lists of a history that goes on.

@@ -1,0 +1,1 @@
+-- The replies by which calls were settled.

@@ -1,0 +1,1 @@
+-- The cases of a command, and of an out that is received.

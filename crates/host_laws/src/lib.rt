@@ -1,0 +1,9 @@
+//! What holds of every run of the host machine, and of every course of the host beside its isolates.
+//!
+//! Contracts see stands, scenes and records as `host_meaning` defines them.
+//! Rely on: the laws that stand on the functions of `laws`; none of them does anything when it is called.
+//! Over `host_meaning`, `host_syntax`, `isolate_meaning` and `task_history`; under `host_machine` and `ivm_cli`.
+//! Begin with `src/laws.rt`, then the files of `specs`.
+#![tactic(auto)]
+
+mod laws;
