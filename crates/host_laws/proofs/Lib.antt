@@ -4,3 +4,4 @@ pub mod Settled
 pub mod Accounted
 pub mod Told
 pub mod Known
+pub mod Causes
