@@ -8,6 +8,7 @@ use Rattle.task_history.specs.declared.record.Event.{Event}
 use Rattle.task_history.specs.declared.record.Event.TheVariants.{Post, Recv, Ask, Release, Settle}
 use Rattle.task_history.specs.Lists.{outs, receives, receive_of}
 use Rattle.host_meaning.specs.Lawful.{StandsIn, IsCaused, IsCausedBy, AreCaused}
+use Rattle.host_laws.proofs.Lists.{same_if}
 
 -- ---- a history that goes on
 
@@ -40,9 +41,6 @@ is_caused_grown i journal more history l caused front entry stands =
     let found = stands_before journal more front stands.rest entry stands.whole (grind (arith, l, stands.after)) in
     caused front entry (record { rest = found.0; whole = found.1; after = stands.after; before = stands.before })
 
-same_if : {A : Type 0} (i : ℕ) (x y : A) → (if i == i then x else y) ≡ x
-same_if i x y = grind arith
-
 -- after a receipt from isolate i more is received than before
 more_received : (i j : ℕ) (out : Out) (history events : List Event) (n : ℕ) → j ≡ i → length (receives i (history ++ Recv j out ∷ events)) ≤ n → length (receives i history) < n
 more_received i j out history events n e l =
@@ -61,9 +59,10 @@ caused_by_grown i journal more history events (Recv j out) l c = λ e. is_caused
 
 pub caused_grown : (i : ℕ) (journal more : List Entry) (history events : List Event) → length (receives i (history ++ events)) ≤ length (outs journal) → AreCaused i journal history events → AreCaused i (journal ++ more) history events
 caused_grown i journal more history [] l c = c
-caused_grown i journal more history (event ∷ events) l c =
-    (caused_by_grown i journal more history events event l c.0,
-     caused_grown i journal more (history ++ event ∷ []) events (subst (λ x. length (receives i x) ≤ length (outs journal)) (sym (append_assoc history (event ∷ []) events)) l) c.1)
+caused_grown i journal more history (event ∷ events) l c = (
+  caused_by_grown i journal more history events event l c.0,
+  caused_grown i journal more (history ++ event ∷ []) events (subst (λ x. length (receives i x) ≤ length (outs journal)) (sym (append_assoc history (event ∷ []) events)) l) c.1,
+)
 
 -- ---- an empty journal
 

@@ -5,3 +5,5 @@ pub mod Accounted
 pub mod Told
 pub mod Known
 pub mod Causes
+pub mod Entries
+pub mod Apart
