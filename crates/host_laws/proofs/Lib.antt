@@ -7,3 +7,7 @@ pub mod Known
 pub mod Causes
 pub mod Entries
 pub mod Apart
+pub mod Targets
+pub mod Answered
+pub mod Workers
+pub mod Sent
