@@ -125,13 +125,12 @@ by_quiet f history event quiet = flat_map-append f history (event ∷ []) ∙ ap
 -- ---- an out that is received
 
 module _ (stand : Stand) (i : ℕ) (out : Out) where
-
   -- but for settlements, what a history lists of an out is its receipt
   pub received_by : {A : Type 0} (f : Event → List A) → ((n : ℕ) (how : Settlement) → f (Settle n how) ≡ []) → flat_map f (received stand i out).history ≡ flat_map f stand.history ++ f (Recv i out)
   received_by {A} f quiet =
       received_cases stand i out (λ s. flat_map f s.history ≡ flat_map f stand.history ++ f (Recv i out))
-        (λ _. flat_map-append f stand.history (Recv i out ∷ []) ∙ ap (λ x. flat_map f stand.history ++ x) (append-nil (f (Recv i out))))
-        (λ n outcome _ _. settled n (how.Entry i (replies_of i stand.history)))
+      (λ _. flat_map-append f stand.history (Recv i out ∷ []) ∙ ap (λ x. flat_map f stand.history ++ x) (append-nil (f (Recv i out))))
+      (λ n outcome _ _. settled n (how.Entry i (replies_of i stand.history)))
     where
       settled : (n : ℕ) (by : Settlement) → flat_map f (stand.history ++ Recv i out ∷ Settle n by ∷ []) ≡ flat_map f stand.history ++ f (Recv i out)
       settled n by =
@@ -143,8 +142,8 @@ module _ (stand : Stand) (i : ℕ) (out : Out) where
   pub received_shows : (p : Event → Bool) → ((n : ℕ) (how : Settlement) → p (Settle n how) ≡ false) → list_any p (received stand i out).history ≡ (list_any p stand.history || p (Recv i out))
   received_shows p quiet =
       received_cases stand i out (λ s. list_any p s.history ≡ (list_any p stand.history || p (Recv i out)))
-        (λ _. list_any-append p stand.history (Recv i out ∷ []) ∙ ap (λ x. list_any p stand.history || x) (or_false (p (Recv i out))))
-        (λ n outcome _ _. settled n (how.Entry i (replies_of i stand.history)))
+      (λ _. list_any-append p stand.history (Recv i out ∷ []) ∙ ap (λ x. list_any p stand.history || x) (or_false (p (Recv i out))))
+      (λ n outcome _ _. settled n (how.Entry i (replies_of i stand.history)))
     where
       settled : (n : ℕ) (by : Settlement) → list_any p (stand.history ++ Recv i out ∷ Settle n by ∷ []) ≡ (list_any p stand.history || p (Recv i out))
       settled n by =
