@@ -3,4 +3,5 @@ pub mod Lists
 pub mod Settled
 pub mod Accounted
 pub mod Told
+pub mod Numbers
 pub mod Known
