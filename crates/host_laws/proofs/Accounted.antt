@@ -1,5 +1,5 @@
 -- What became of each number that was drawn.
-use Rattle.std.proofs.Common.{◌≡◌, ◌≢◌, ℕ, suc, zero, ◌+◌, ◌<◌, ◌≤◌, List, [], ◌∷◌, ◌++◌, length, Bool, true, false, not, ◌==◌, if◌then◌else◌, Option, Some, None, refl, subst, sym, ap, ◌∙◌, arith, ◌⊎◌, inl, inr, slice_get, slice_index_or, slice_set, length-append, append-nil}
+use Rattle.std.proofs.Common.{◌≡◌, ℕ, suc, zero, ◌+◌, ◌<◌, ◌≤◌, List, [], ◌∷◌, ◌++◌, length, Bool, true, false, not, ◌==◌, if◌then◌else◌, Option, Some, None, refl, subst, sym, ap, ◌∙◌, arith, ◌⊎◌, inl, inr, slice_get, slice_index_or, slice_set, length-append, append-nil}
 use Rattle.std.proofs.lemmas.Bool.{cases_eq}
 use Rattle.std.proofs.lemmas.List.Elements.{Contains-append_cases, Contains-push_cases}
 use Rattle.std.specs.List.{Contains}
@@ -18,10 +18,10 @@ use Rattle.host_syntax.specs.declared.script.HostScript.{HostScript}
 use Rattle.host_meaning.specs.declared.moves.Held.{Held}
 use Rattle.host_meaning.specs.declared.moves.Held.TheVariants as held
 use Rattle.host_meaning.specs.Stand.{Stand, beginning, drawn, is_there, is_settled}
-use Rattle.host_meaning.specs.Machine.{turn, task_of, drawing, passing, refusing, posting, asking, is_open, hearing, settling, received, received_all, held_by, replies_of, HostRun}
+use Rattle.host_meaning.specs.Machine.{turn, task_of, drawing, posting, settling, received, received_all, held_by, HostRun}
 use Rattle.host_laws.proofs.Turns.{turn_cases, received_cases, run_keeps}
-use Rattle.host_laws.proofs.Lists.{posts_more, slice_get-append_left, slice_get-append_here, slice_get-push_cases, contains_at, place_of, none_there, posts_post_here, posts_post_there, by_quiet, posts_received, received_by, replies_more}
-use Rattle.host_laws.proofs.Settled.{once, settled_push, settled_set, open_is, settled_is_drawn}
+use Rattle.host_laws.proofs.Lists.{posts_more, slice_get-append_left, slice_get-append_here, slice_get-push_cases, none_there, posts_post_here, posts_post_there, by_quiet, posts_received, received_by, replies_more}
+use Rattle.host_laws.proofs.Settled.{once, settled_push, settled_set, open_is}
 
 -- ---- numbers that are drawn, and settled numbers, stay so
 

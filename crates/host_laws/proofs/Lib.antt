@@ -3,6 +3,7 @@ pub mod Lists
 pub mod Settled
 pub mod Accounted
 pub mod Told
+pub mod Numbers
 pub mod Known
 pub mod Causes
 pub mod Entries

@@ -1,5 +1,5 @@
 -- The lists of a history that goes on.
-use Rattle.std.proofs.Common.{◌≡◌, ◌≢◌, ℕ, suc, zero, ◌+◌, ◌<◌, ◌≤◌, List, [], ◌∷◌, ◌++◌, length, Bool, true, false, ◌==◌, ◌||◌, if◌then◌else◌, Option, Some, None, refl, subst, sym, ap, ◌∙◌, arith, ◌⊎◌, inl, inr, append-nil, append_assoc, length-append, slice_get, slice_index_or, slice_set, cond, count_by}
+use Rattle.std.proofs.Common.{◌≡◌, ◌≢◌, ℕ, suc, zero, List, [], ◌∷◌, ◌++◌, length, Bool, true, false, ◌==◌, ◌||◌, if◌then◌else◌, Some, refl, sym, ap, ◌∙◌, arith, ◌⊎◌, inl, inr, append-nil, append_assoc, slice_get}
 use Rattle.std.specs.List.{flat_map, list_any, Contains}
 use Rattle.std.proofs.lemmas.Grind.{flat_map-append}
 use Rattle.std.proofs.lemmas.List.Folds.{list_any-append}
@@ -8,10 +8,10 @@ use Rattle.task_history.specs.declared.outcome.Out.{Out}
 use Rattle.task_history.specs.declared.record.Settlement.{Settlement}
 use Rattle.task_history.specs.declared.record.Settlement.TheVariants as how
 use Rattle.task_history.specs.declared.record.Event.{Event}
-use Rattle.task_history.specs.declared.record.Event.TheVariants.{Post, Recv, Ask, Release, Settle}
-use Rattle.task_history.specs.Lists.{posts, receives, asks, replies, post_of, receive_of, ask_of, reply_of, is_asked, has_ended, is_gone, asks_it, tells_end, tells_disposal}
+use Rattle.task_history.specs.declared.record.Event.TheVariants.{Post, Recv, Ask, Settle}
+use Rattle.task_history.specs.Lists.{posts, receives, asks, replies, post_of, receive_of, ask_of, reply_of, is_asked, has_ended, is_gone, asks_it, tells_end}
 use Rattle.host_meaning.specs.Stand.{Stand}
-use Rattle.host_meaning.specs.Machine.{replies_of, hearing, settling, received, received_all}
+use Rattle.host_meaning.specs.Machine.{replies_of, received, received_all}
 use Rattle.host_laws.proofs.Turns.{received_cases}
 
 pub same_if : {A : Type 0} (i : ℕ) (x y : A) → (if i == i then x else y) ≡ x

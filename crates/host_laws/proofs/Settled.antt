@@ -1,5 +1,5 @@
 -- How often a call is settled.
-use Rattle.std.proofs.Common.{◌≡◌, ◌≢◌, ℕ, suc, zero, ◌+◌, ◌<◌, ◌≤◌, List, [], ◌∷◌, ◌++◌, length, Bool, true, false, not, ◌==◌, if◌then◌else◌, Option, Some, None, refl, subst, sym, ap, ◌∙◌, arith, ◌⊎◌, inl, inr, slice_get, slice_index_or, slice_set, cond, count_by}
+use Rattle.std.proofs.Common.{◌≡◌, ℕ, suc, zero, ◌+◌, ◌<◌, ◌≤◌, List, [], ◌∷◌, ◌++◌, length, Bool, true, false, not, ◌==◌, if◌then◌else◌, Option, Some, None, refl, ◌∙◌, arith, slice_get, slice_index_or, slice_set, cond, count_by}
 use Rattle.std.specs.List.{Contains}
 use Rattle.std.specs.Option.{option_map_or}
 use Rattle.std.proofs.lemmas.List.Sums.{sum_by-append, sum_by-cons}
@@ -12,8 +12,8 @@ use Rattle.task_history.specs.declared.record.Event.TheVariants.{Post, Recv, Ask
 use Rattle.host_syntax.specs.declared.script.HostScript.{HostScript}
 use Rattle.host_meaning.specs.declared.moves.Held.{Held}
 use Rattle.host_meaning.specs.declared.moves.Held.TheVariants as held
-use Rattle.host_meaning.specs.Stand.{Stand, beginning, drawn, is_there, is_settled}
-use Rattle.host_meaning.specs.Machine.{turn, task_of, drawing, passing, refusing, posting, asking, is_open, hearing, settling, received, held_by, replies_of, HostRun}
+use Rattle.host_meaning.specs.Stand.{Stand, drawn, is_there, is_settled}
+use Rattle.host_meaning.specs.Machine.{turn, task_of, drawing, is_open, settling, received, held_by, replies_of, HostRun}
 use Rattle.host_meaning.specs.Settlement.{settles, times_settled}
 use Rattle.host_laws.proofs.Turns.{turn_cases, received_cases, run_keeps}
 

@@ -1,9 +1,8 @@
 -- The replies by which calls were settled.
-use Rattle.std.proofs.Common.{◌≡◌, ◌≢◌, ℕ, suc, zero, ◌+◌, ◌<◌, ◌≤◌, List, [], ◌∷◌, ◌++◌, length, Bool, true, false, not, ◌==◌, if◌then◌else◌, Option, Some, None, refl, subst, sym, ap, ◌∙◌, arith, ◌⊎◌, inl, inr, slice_get, append-nil}
-use Rattle.std.proofs.lemmas.Bool.{cases_eq}
+use Rattle.std.proofs.Common.{◌≡◌, ℕ, List, [], ◌∷◌, ◌++◌, Some, refl, subst, sym, ap, ◌∙◌, inl, inr, slice_get, append-nil}
 use Rattle.std.proofs.lemmas.List.Elements.{Contains-append_cases, Contains-push_cases}
 use Rattle.std.specs.List.{Contains}
-use Rattle.task_history.specs.Lists.{receives, replies, receive_of, reply_of}
+use Rattle.task_history.specs.Lists.{receives, replies, receive_of}
 use Rattle.task_history.specs.declared.task.Own.TheVariants.{Disposed}
 use Rattle.task_history.specs.declared.outcome.Outcome.{Outcome}
 use Rattle.task_history.specs.declared.outcome.Out.{Out}
@@ -13,11 +12,10 @@ use Rattle.task_history.specs.declared.record.Settlement.TheVariants as how
 use Rattle.task_history.specs.declared.record.Event.{Event}
 use Rattle.task_history.specs.declared.record.Event.TheVariants.{Post, Recv, Ask, Settle}
 use Rattle.host_syntax.specs.declared.script.HostScript.{HostScript}
-use Rattle.host_meaning.specs.declared.moves.Held.TheVariants as held
-use Rattle.host_meaning.specs.Stand.{Stand, beginning, drawn}
-use Rattle.host_meaning.specs.Machine.{turn, task_of, drawing, received, hearing, settling, replies_of, HostRun}
+use Rattle.host_meaning.specs.Stand.{Stand, drawn}
+use Rattle.host_meaning.specs.Machine.{task_of, received, settling, replies_of, HostRun}
 use Rattle.host_laws.proofs.Turns.{turn_cases, received_cases, run_keeps}
-use Rattle.host_laws.proofs.Lists.{none_there, receives_more, receives_here, receives_grow, replies_more, slice_get-append_left, slice_get-append_here, same_if}
+use Rattle.host_laws.proofs.Lists.{none_there, receives_more, replies_more, slice_get-append_left, slice_get-append_here, same_if}
 
 -- where a call was settled by entry p of isolate i, reply p of those that were received from it answers the call
 abbrev pub IsTold : List Event → Type 0

@@ -1,19 +1,17 @@
 -- The cases of a command, and of an out that is received.
-use Rattle.std.proofs.Common.{◌≡◌, ◌≢◌, ℕ, ◌+◌, ◌≤◌, List, [], ◌∷◌, ◌++◌, length, Bool, true, false, not, nat_le, if◌then◌else◌, Option, Some, None, refl, subst, sym, ap, ◌∙◌, arith, slice_get, ◌⊎◌, inl, inr}
-use Rattle.std.specs.Option.{option_map_or}
+use Rattle.std.proofs.Common.{◌≡◌, ◌≢◌, ℕ, ◌+◌, ◌<◌, List, [], ◌∷◌, ◌++◌, length, Bool, true, false, nat_le, if◌then◌else◌, Option, Some, None, refl, subst, sym, ap, ◌∙◌, slice_get, ◌⊎◌, inl, inr, length-append}
+use Rattle.std.proofs.lemmas.Option.{slice_get_within}
 use Rattle.task_history.specs.Lists.{is_gone}
-use Rattle.task_history.specs.declared.task.Task.{Task}
 use Rattle.task_history.specs.declared.task.TaskKind.{TaskKind}
 use Rattle.task_history.specs.declared.outcome.Outcome.{Outcome}
 use Rattle.task_history.specs.declared.outcome.Out.{Out}
 use Rattle.task_history.specs.declared.outcome.Out.TheVariants.{Call, Log, AskTable, Reply}
 use Rattle.host_syntax.specs.declared.script.HostScript.{HostScript}
 use Rattle.host_syntax.specs.declared.script.Command.{Command}
-use Rattle.host_meaning.specs.declared.moves.Held.{Held}
 use Rattle.host_meaning.specs.declared.moves.Move.{Move}
 use Rattle.host_meaning.specs.declared.moves.Move.TheVariants.{Post, Ask, Own, Blocked}
-use Rattle.host_meaning.specs.Stand.{Stand, beginning, place, drawn, is_there}
-use Rattle.host_meaning.specs.Machine.{Request, asks_nothing, asks_task, asks_stop, request, is_blocked, most_calls, task_of, passing, refusing, posting, asking, calling, doing, by_command, turn, is_open, hearing, settling, received, received_all, HostStep, HostRun}
+use Rattle.host_meaning.specs.Stand.{Stand, beginning, place, drawn}
+use Rattle.host_meaning.specs.Machine.{Request, asks_nothing, asks_task, asks_stop, request, is_blocked, most_calls, task_of, passing, refusing, posting, asking, calling, doing, by_command, turn, is_open, hearing, settling, received, received_all, HostRun}
 use Rattle.host_meaning.specs.Machine.HostStep.{turns, receives_one}
 use Rattle.host_meaning.specs.Machine.HostRun.{begins, goes}
 
@@ -92,6 +90,47 @@ why_blocked_by stand (Some command) is =
 
 pub why_blocked : (stand : Stand) → (turn stand).0 ≡ Blocked → CantGoOn stand (slice_get stand.script.commands (place stand))
 why_blocked stand is = why_blocked_by stand (slice_get stand.script.commands (place stand)) is
+
+-- ---- the place
+
+place_more : (stand : Stand) (number : Option ℕ) → length (stand.numbers ++ number ∷ []) ≡ place stand + 1
+place_more stand number = length-append stand.numbers (number ∷ [])
+
+calling_place : (stand : Stand) (wanted : Request) → place (calling stand wanted).1 ≡ place stand + 1
+calling_place stand asks_nothing = place_more stand None
+calling_place stand (asks_task i budget kind) =
+    if_cases (is_gone i stand.history) (λ (m : Move × Stand). place m.1 ≡ place stand + 1) (Own, refusing stand) (Post i (task_of stand budget kind), posting stand i (task_of stand budget kind))
+    (λ _. place_more stand (Some (drawn stand))) (λ _. place_more stand (Some (drawn stand)))
+calling_place stand (asks_stop i) =
+    if_cases (is_gone i stand.history) (λ (m : Move × Stand). place m.1 ≡ place stand + 1) (Own, refusing stand) (Ask i, asking stand i)
+    (λ _. place_more stand (Some (drawn stand))) (λ _. place_more stand (Some (drawn stand)))
+
+doing_place : (stand : Stand) (wanted : Request) → place (doing stand wanted).1 ≡ place stand + 1
+doing_place stand wanted =
+    if_cases (nat_le most_calls (drawn stand)) (λ (m : Move × Stand). place m.1 ≡ place stand + 1) (Own, passing stand) (calling stand wanted)
+    (λ _. place_more stand None) (λ _. calling_place stand wanted)
+
+-- a command is done, and the next one is the host's; or nothing is
+pub record GoesOn (stand : Stand) : Type 0 where
+  pub goes_on : (turn stand).0 ≢ Blocked
+  pub was_there : place stand < length stand.script.commands
+  pub next : place (turn stand).1 ≡ place stand + 1
+
+pub turn_goes : (stand : Stand) → (turn stand ≡ (Blocked, stand)) ⊎ GoesOn stand
+turn_goes stand = by_next (slice_get stand.script.commands (place stand)) refl
+  where
+    by_next : (next : Option Command) → slice_get stand.script.commands (place stand) ≡ next → (turn stand ≡ (Blocked, stand)) ⊎ GoesOn stand
+    by_next None at = inl (ap (by_command stand) at)
+    by_next (Some command) at =
+        let is : turn stand ≡ by_command stand (Some command) = ap (by_command stand) at in
+        if_cases (is_blocked stand command.what) (λ (m : Move × Stand). turn stand ≡ m → (turn stand ≡ (Blocked, stand)) ⊎ GoesOn stand) (Blocked, stand) (doing stand (request stand command.what))
+        (λ _ now. inl now)
+        (λ _ now. inr (record {
+          goes_on = λ e. doing_goes stand (request stand command.what) (ap (λ m. m.0) (sym now) ∙ e);
+          was_there = slice_get_within stand.script.commands (place stand) command at;
+          next = ap (λ m. place m.1) now ∙ doing_place stand (request stand command.what);
+        }))
+        is
 
 -- ---- an out
 
