@@ -25,7 +25,7 @@ use Rattle.host_laws.proofs.Settled.{once, settled_push, settled_set, open_is}
 
 -- ---- numbers that are drawn, and settled numbers, stay so
 
-length_set : {A : Type 0} (xs : List A) (k : ℕ) (x : A) → length (slice_set xs k x) ≡ length xs
+pub length_set : {A : Type 0} (xs : List A) (k : ℕ) (x : A) → length (slice_set xs k x) ≡ length xs
 length_set [] k x = refl
 length_set (y ∷ xs) zero x = refl
 length_set (y ∷ xs) (suc k) x = ap suc (length_set xs k x)
@@ -89,7 +89,7 @@ abbrev pub PostedOnce : Stand → Type 0
 PostedOnce stand = (n : ℕ) (one other : IsPosted stand.history n) → (one.isolate ≡ other.isolate) × (one.place ≡ other.place)
 
 -- where a history has one more post, a number was posted before, or by it
-posted_cases : (history : List Event) (j : ℕ) (new : Task) (n : ℕ) (is : IsPosted (history ++ Post j new ∷ []) n)
+pub posted_cases : (history : List Event) (j : ℕ) (new : Task) (n : ℕ) (is : IsPosted (history ++ Post j new ∷ []) n)
     → (slice_get (posts is.isolate history) is.place ≡ Some is.task) ⊎ ((is.isolate ≡ j) × (is.place ≡ length (posts j history)) × (is.task ≡ new))
 posted_cases history j new n is =
     elim (cases_eq is.isolate j) as (λ x. (slice_get (posts is.isolate history) is.place ≡ Some is.task) ⊎ ((is.isolate ≡ j) × (is.place ≡ length (posts j history)) × (is.task ≡ new))) [
@@ -107,7 +107,7 @@ posted_cases history j new n is =
         ]
 
 -- a history with the same posts has the same numbers
-same_posted : (history next : List Event) → ((i : ℕ) → posts i next ≡ posts i history) → (n : ℕ) → IsPosted next n → IsPosted history n
+pub same_posted : (history next : List Event) → ((i : ℕ) → posts i next ≡ posts i history) → (n : ℕ) → IsPosted next n → IsPosted history n
 same_posted history next same n is =
     record { isolate = is.isolate; place = is.place; task = is.task; at = subst (λ x. slice_get x is.place ≡ Some is.task) (same is.isolate) is.at; named = is.named }
 
@@ -120,7 +120,7 @@ still_posted history more n is = record {
   named = is.named;
 }
 
-posts_drawing : (stand : Stand) (settled : Option Held) (stops : List ℕ) (event : Event) → ((i : ℕ) → post_of i event ≡ []) → (i : ℕ) → posts i (drawing stand settled stops event).history ≡ posts i stand.history
+pub posts_drawing : (stand : Stand) (settled : Option Held) (stops : List ℕ) (event : Event) → ((i : ℕ) → post_of i event ≡ []) → (i : ℕ) → posts i (drawing stand settled stops event).history ≡ posts i stand.history
 posts_drawing stand settled stops event quiet i = by_quiet (post_of i) stand.history event (quiet i)
 
 -- ---- posted numbers are drawn
@@ -168,7 +168,7 @@ not_next stand i budget kind n is below old same =
     let l = below n (record { isolate = is.isolate; place = is.place; task = is.task; at = old; named = is.named }) in
     grind (arith, l, same)
 
-is_next : (stand : Stand) (budget : ℕ) (kind : TaskKind) (n : ℕ) (task : Task) → task.call ≡ Some n → task ≡ task_of stand budget kind → n ≡ drawn stand
+pub is_next : (stand : Stand) (budget : ℕ) (kind : TaskKind) (n : ℕ) (task : Task) → task.call ≡ Some n → task ≡ task_of stand budget kind → n ≡ drawn stand
 is_next stand budget kind n task named same = let e : Some n ≡ Some (drawn stand) = sym named ∙ ap (λ t. t.call) same in cc
 
 once_posting : (stand : Stand) (i budget : ℕ) (kind : TaskKind) → PostedAreDrawn stand → PostedOnce stand → PostedOnce (posting stand i (task_of stand budget kind))

@@ -4,4 +4,6 @@ pub mod Settled
 pub mod Accounted
 pub mod Told
 pub mod Numbers
+pub mod Contexts
+pub mod Replied
 pub mod Known
