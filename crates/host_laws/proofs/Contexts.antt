@@ -1,17 +1,11 @@
 -- What became of the commands that make contexts.
-use Rattle.std.proofs.Common.{◌≡◌, ◌≢◌, ℕ, suc, zero, ◌+◌, ◌<◌, ◌≤◌, List, [], ◌∷◌, ◌++◌, length, Bool, true, false, nat_le, Option, Some, None, refl, subst, sym, ap, ◌∙◌, arith, ◌⊎◌, inl, inr, slice_get, slice_index_or, slice_set, length-append}
-use Rattle.std.proofs.lemmas.Bool.{cases_eq}
-use Rattle.std.proofs.lemmas.List.{get_or-set_same, get_or-set_other}
-use Rattle.std.proofs.lemmas.List.Elements.{Contains-append_left, Contains-push}
-use Rattle.std.specs.List.{Contains}
-use Rattle.task_history.specs.Lists.{posts, receives, post_of, receive_of, is_gone}
+use Rattle.std.proofs.Common.{◌≡◌, ℕ, suc, zero, ◌+◌, ◌<◌, ◌≤◌, List, [], ◌∷◌, ◌++◌, length, true, nat_le, Option, Some, None, refl, subst, sym, ap, ◌∙◌, arith, ◌⊎◌, inl, inr, slice_get, slice_index_or, length-append}
+use Rattle.task_history.specs.Lists.{posts, is_gone}
 use Rattle.task_history.specs.declared.task.Own.TheVariants.{Disposed}
 use Rattle.task_history.specs.declared.task.Task.{Task}
 use Rattle.task_history.specs.declared.task.TaskKind.{TaskKind}
 use Rattle.task_history.specs.declared.task.TaskKind.TheVariants as kind
-use Rattle.task_history.specs.declared.outcome.Outcome.{Outcome}
 use Rattle.task_history.specs.declared.outcome.Out.{Out}
-use Rattle.task_history.specs.declared.outcome.Out.TheVariants.{Reply}
 use Rattle.task_history.specs.declared.record.Settlement.TheVariants as how
 use Rattle.task_history.specs.declared.record.Event.{Event}
 use Rattle.task_history.specs.declared.record.Event.TheVariants.{Post, Recv, Ask, Settle}
@@ -22,11 +16,11 @@ use Rattle.host_syntax.specs.declared.script.What.TheVariants as what
 use Rattle.host_syntax.specs.Whole.{context_of}
 use Rattle.host_meaning.specs.declared.moves.Held.{Held}
 use Rattle.host_meaning.specs.declared.moves.Held.TheVariants as held
-use Rattle.host_meaning.specs.Stand.{Stand, beginning, place, drawn, number_of}
-use Rattle.host_meaning.specs.Machine.{Request, asks_nothing, asks_task, asks_stop, request, default_budget, most_calls, turn, task_of, drawing, passing, posting, received, hearing, settling, held_by, replies_of, HostRun, MayReceive}
-use Rattle.host_laws.proofs.Turns.{turn_cases_shown, MayPass, MayPost, MayAsk, IsAsked, IsRefused, GoesTo, received_cases, run_keeps, run_keeps_heard}
-use Rattle.host_laws.proofs.Lists.{slice_get-append_left, slice_get-append_here, posts_more, posts_post_here, receives_more, receives_grow, receives_here, posts_received, still_gone}
-use Rattle.host_laws.proofs.Accounted.{drawn_drawing, drawn_received, length_set, IsPosted, still_posted, PostedAreDrawn, posted_are_drawn}
+use Rattle.host_meaning.specs.Stand.{Stand, place, drawn, number_of}
+use Rattle.host_meaning.specs.Machine.{Request, asks_task, asks_stop, request, default_budget, most_calls, turn, task_of, drawing, passing, received, hearing, settling, held_by, replies_of, HostRun}
+use Rattle.host_laws.proofs.Turns.{turn_cases_shown, MayPass, MayPost, IsAsked, IsRefused, GoesTo, received_cases, run_keeps}
+use Rattle.host_laws.proofs.Lists.{slice_get-append_left, slice_get-append_here, posts_more, posts_post_here, still_gone}
+use Rattle.host_laws.proofs.Accounted.{drawn_drawing, length_set}
 
 -- ---- an element of a list with one more
 

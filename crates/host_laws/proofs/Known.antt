@@ -1,17 +1,14 @@
 -- What a posted task names was told by its isolate.
-use Rattle.std.proofs.Common.{◌≡◌, ◌≢◌, ℕ, suc, zero, ◌+◌, ◌<◌, ◌≤◌, List, [], ◌∷◌, ◌++◌, length, Bool, true, false, not, nat_le, ◌==◌, ◌||◌, if◌then◌else◌, Option, Some, None, refl, subst, sym, ap, ◌∙◌, arith, ◌⊎◌, inl, inr, slice_get, slice_index_or}
+use Rattle.std.proofs.Common.{◌≡◌, ℕ, ◌<◌, List, [], ◌∷◌, ◌++◌, length, Bool, true, false, not, nat_le, ◌==◌, ◌||◌, if◌then◌else◌, Option, Some, None, refl, subst, sym, ap, ◌∙◌, arith, ◌⊎◌, inl, inr, slice_get, slice_index_or}
 use Rattle.std.proofs.lemmas.List.Elements.{Contains-append_left, Contains-append_right, Contains-append_cases, Contains-push_cases}
-use Rattle.std.specs.List.{Contains, list_any}
+use Rattle.std.specs.List.{Contains}
 use Rattle.std.specs.Option.{option_map_or}
-use Rattle.ivm_text.specs.declared.copies.Copy.{Copy}
 use Rattle.ivm_text.specs.declared.copies.Leaf.{Leaf}
 use Rattle.ivm_text.specs.declared.copies.Leaf.TheVariants.{Undefined, Null, Bool as Boolean, Num, Node}
 use Rattle.task_history.specs.Lists.{posts, receives, tasks, outs, listed, is_gone, is_asked, has_ended, is_disposal, tells_disposal, receive_of, tells_end}
-use Rattle.task_history.specs.declared.task.Act.TheVariants as act
 use Rattle.task_history.specs.declared.task.Task.{Task}
 use Rattle.task_history.specs.declared.task.TaskKind.{TaskKind}
 use Rattle.task_history.specs.declared.task.TaskKind.TheVariants as kind
-use Rattle.task_history.specs.declared.outcome.By.{By}
 use Rattle.task_history.specs.declared.outcome.By.TheVariants.{Host}
 use Rattle.task_history.specs.declared.outcome.Outcome.{Outcome}
 use Rattle.task_history.specs.declared.outcome.Outcome.TheVariants as outcome
@@ -21,10 +18,10 @@ use Rattle.task_history.specs.declared.record.Entry.{Entry}
 use Rattle.task_history.specs.declared.record.Event.{Event}
 use Rattle.task_history.specs.declared.record.Event.TheVariants.{Post, Recv, Ask, Release, Settle}
 use Rattle.isolate_meaning.specs.State.{State, live, ended, Isolate, fresh, IsPlain}
-use Rattle.isolate_meaning.specs.Fits.{IsSound, IsSoundKind, IsPrimitive}
-use Rattle.isolate_meaning.specs.Does.{Does, DoesTo, acts, refuses, stop_entry}
+use Rattle.isolate_meaning.specs.Fits.{IsPrimitive}
+use Rattle.isolate_meaning.specs.Does.{DoesTo, acts, refuses, stop_entry}
 use Rattle.isolate_meaning.specs.Replay.{Replay, Stands}
-use Rattle.isolate_meaning.specs.Known.{TellsContext, NamesKnown, IsKnown}
+use Rattle.isolate_meaning.specs.Known.{TellsContext, IsKnown}
 use Rattle.isolate_meaning.specs.Laws.{IsContextReply}
 use Rattle.isolate_meaning.proofs.Told.{context_reply}
 use Rattle.host_syntax.specs.declared.script.HostScript.{HostScript}
@@ -35,10 +32,9 @@ use Rattle.host_syntax.specs.declared.script.What.{What}
 use Rattle.host_syntax.specs.declared.script.What.TheVariants as what
 use Rattle.host_syntax.specs.Whole.{IsWhole, NamesEarlier, MakesContext, context_of, IsArgument, IsPrimitiveLeaf}
 use Rattle.host_meaning.specs.declared.moves.Held.{Held}
-use Rattle.host_meaning.specs.declared.moves.Held.TheVariants as held
 use Rattle.host_meaning.specs.declared.moves.Move.TheVariants as move
 use Rattle.host_meaning.specs.Stand.{Stand, place, drawn, is_there, is_settled, number_of, is_label_settled, held_of, held_at}
-use Rattle.host_meaning.specs.Machine.{Request, asks_nothing, asks_task, asks_stop, request, is_blocked, isolate_of, context_in, row_in, argument_of, default_budget, most_calls, turn, task_of, held_by, HostRun}
+use Rattle.host_meaning.specs.Machine.{Request, asks_nothing, asks_task, asks_stop, request, is_blocked, isolate_of, context_in, row_in, argument_of, most_calls, task_of, held_by, HostRun}
 use Rattle.host_laws.specs.Known.{IsServed, AreServed, PostsKnown}
 use Rattle.host_laws.proofs.Turns.{turn_cases, MayPost, script_run}
 use Rattle.host_laws.proofs.Lists.{none_there, place_of}
@@ -188,3 +184,71 @@ module _ (script : HostScript) (stand : Stand) (run : HostRun script stand) (ser
       ap (λ c. option_map_or (λ (c : Command). option_map_or (λ i. i) (context_of c.what) 0) c 0) at ∙ ap (λ i. option_map_or (λ i. i) i 0) makes in
       subst (λ i. TellsContext (receives i stand.history) (context_in (held_at stand k)) (row_in (held_at stand k))) (sym same)
       (by_number isolate (number_of stand k) (contexts_have_fates script stand run k isolate command at makes below) settled room (subst (λ i. is_gone i stand.history ≡ false) same here))
+
+-- ---- what a request asks for
+
+plain_leaf : (leaf : Leaf) → IsPrimitiveLeaf leaf → IsPlain leaf
+plain_leaf Undefined is = tt
+plain_leaf Null is = tt
+plain_leaf (Boolean b) is = tt
+plain_leaf (Num n) is = tt
+plain_leaf (Node n) is = absurd is
+
+plain_argument : (value : HostArgument) → IsArgument value → IsPrimitive (argument_of value)
+plain_argument (Literal copy) is = (is.0, plain_leaf copy.root is.1)
+
+-- what a task that is asked for names, was told by its isolate, unless that is gone
+abbrev AsksForKnown : List Event → Request → Type 0
+AsksForKnown history asks_nothing = Unit {0}
+AsksForKnown history (asks_task i budget kind) = is_gone i history ≡ false → (call : Option ℕ) → IsKnown (receives i history) (record { call = call; budget = budget; kind = kind })
+AsksForKnown history (asks_stop i) = Unit {0}
+
+free_label : (settled : Bool) → not settled ≡ false → settled ≡ true
+free_label true is = refl
+free_label false is = cc
+
+module _ (script : HostScript) (stand : Stand) (run : HostRun script stand) (served : AreServed stand.script stand.history) (room : nat_le most_calls (drawn stand) ≡ false) where
+  known_request : (wanted : What) → NamesEarlier stand.script (place stand) wanted → is_blocked stand wanted ≡ false → AsksForKnown stand.history (request stand wanted)
+  known_request what.Declare names free = tt
+  known_request (what.Context isolate) names free = λ here call. record { sound = record { kind = tt; some = grind arith; most = grind arith }; names = tt }
+  known_request (what.Eval context budget want text) names free = λ here call. record {
+    sound = record { kind = names.3; some = names.1; most = names.2 };
+    names = (row_in (held_at stand context), context_told script stand run served context names.0 (free_label (is_label_settled stand context) free) room here);
+  }
+  known_request (what.Get target key want) names free = λ here call. record {
+    sound = record { kind = names.1; some = grind arith; most = grind arith };
+    names = (context_in (held_at stand target), context_told script stand run served target names.0 (free_label (is_label_settled stand target) free) room here);
+  }
+  known_request (what.Set target key value) names free = λ here call. record {
+    sound = record { kind = plain_argument value names.1; some = grind arith; most = grind arith };
+    names = (context_in (held_at stand target), context_told script stand run served target names.0 (free_label (is_label_settled stand target) free) room here);
+  }
+  known_request (what.Dispose isolate) names free = tt
+  known_request (what.Wait target) names free = tt
+
+-- ---- what is posted
+
+known_if_posted : (script : HostScript) (stand : Stand) → IsWhole stand.script → HostRun script stand → AreServed stand.script stand.history
+    → (i budget : ℕ) (kind : TaskKind) → MayPost stand i budget kind → IsKnown (receives i stand.history) (task_of stand budget kind)
+known_if_posted script stand whole run served i budget kind may =
+    let asked = may.asked in
+    let known : AsksForKnown stand.history (request stand asked.command.what) =
+    known_request script stand run served asked.room asked.command.what (whole.in_place (place stand) asked.command asked.at).names asked.free in
+    (subst (AsksForKnown stand.history) asked.is known) may.here (Some (drawn stand))
+
+posts_known_at : (script : HostScript) (stand : Stand) → IsWhole stand.script → HostRun script stand → AreServed stand.script stand.history → PostsKnown stand
+posts_known_at script stand whole run served i task =
+    turn_cases stand (λ m. m.0 ≡ move.Post i task → IsKnown (receives i stand.history) task)
+    (λ e. let no : ⊥ = cc in absurd no)
+    (λ e. let no : ⊥ = cc in absurd no)
+    (λ e. let no : ⊥ = cc in absurd no)
+    (λ j budget kind may e.
+    let same : j ≡ i = cc in
+    let same_task : task_of stand budget kind ≡ task = cc in
+    subst (λ x. IsKnown (receives i stand.history) x) same_task (subst (λ x. IsKnown (receives x stand.history) (task_of stand budget kind)) same (known_if_posted script stand whole run served j budget kind may)))
+    (λ j _ e. let no : ⊥ = cc in absurd no)
+
+pub posts_known : (script : HostScript) (stand : Stand) → IsWhole script → HostRun script stand → AreServed script stand.history → PostsKnown stand
+posts_known script stand whole run served =
+    let same : script ≡ stand.script = sym (script_run script stand run) in
+    posts_known_at script stand (subst IsWhole same whole) run (subst (λ s. AreServed s stand.history) same served)

@@ -1,7 +1,5 @@
 -- What the settlement of a posted call holds, a reply told.
-use Rattle.std.proofs.Common.{◌≡◌, ◌≢◌, ℕ, suc, zero, ◌+◌, ◌<◌, ◌≤◌, List, [], ◌∷◌, ◌++◌, length, Bool, true, false, Option, Some, None, refl, subst, sym, ap, ◌∙◌, arith, ◌⊎◌, inl, inr, slice_get, slice_index_or, slice_set, append-nil}
-use Rattle.std.proofs.lemmas.Bool.{cases_eq}
-use Rattle.std.proofs.lemmas.List.{get_or-set_same, get_or-set_other}
+use Rattle.std.proofs.Common.{◌≡◌, ℕ, suc, zero, ◌<◌, List, [], ◌∷◌, ◌++◌, length, true, Option, Some, None, refl, subst, sym, ap, arith, ◌⊎◌, inl, inr, slice_get, slice_index_or, slice_set, append-nil}
 use Rattle.std.proofs.lemmas.List.Elements.{Contains-append_left, Contains-push}
 use Rattle.std.specs.List.{Contains}
 use Rattle.task_history.specs.Lists.{posts, receives, post_of}
@@ -18,10 +16,11 @@ use Rattle.host_meaning.specs.declared.moves.Held.{Held}
 use Rattle.host_meaning.specs.declared.moves.Held.TheVariants as held
 use Rattle.host_meaning.specs.Stand.{Stand, drawn}
 use Rattle.host_meaning.specs.Machine.{turn, task_of, drawing, passing, posting, is_open, received, hearing, settling, held_by, replies_of, HostRun, MayReceive}
+use Rattle.host_laws.specs.Settled.{PostsDrawn}
 use Rattle.host_laws.proofs.Turns.{turn_cases, received_cases, run_keeps_heard}
-use Rattle.host_laws.proofs.Lists.{receives_more, receives_here, posts_received, slice_get-push_cases}
+use Rattle.host_laws.proofs.Lists.{receives_more, receives_here, posts_received}
 use Rattle.host_laws.proofs.Settled.{open_is}
-use Rattle.host_laws.proofs.Accounted.{IsPosted, PostedAreDrawn, posted_are_drawn, posted_cases, is_next, posts_drawing, same_posted}
+use Rattle.host_laws.proofs.Accounted.{IsPosted, posted_are_drawn, posted_cases, is_next, posts_drawing, same_posted}
 
 -- a reply that was received from an isolate of the script told what the settlement of call n holds
 pub record IsReplied (stand : Stand) (n : ℕ) (now : Held) : Type 0 where
@@ -79,7 +78,7 @@ replied_moves stand next n now script more history is = record {
 
 -- ---- commands
 
-replied_quiet : (stand : Stand) (settled : Option Held) (stops : List ℕ) (event : Event) → ((i : ℕ) → post_of i event ≡ []) → PostedAreDrawn stand → HeldAreReplied stand → HeldAreReplied (drawing stand settled stops event)
+replied_quiet : (stand : Stand) (settled : Option Held) (stops : List ℕ) (event : Event) → ((i : ℕ) → post_of i event ≡ []) → PostsDrawn stand → HeldAreReplied stand → HeldAreReplied (drawing stand settled stops event)
 replied_quiet stand settled stops event quiet below kept n now is posted =
     let before = same_posted stand.history (stand.history ++ event ∷ []) (posts_drawing stand settled stops event quiet) n posted in
     elim (call_push stand.calls settled n now is) as (λ x. IsReplied (drawing stand settled stops event) n now) [
@@ -98,7 +97,7 @@ replied_posting stand i budget kind kept n now is posted =
       | inr new ↦ cc
     ]
 
-replied_turn : (stand : Stand) → PostedAreDrawn stand → HeldAreReplied stand → HeldAreReplied (turn stand).1
+replied_turn : (stand : Stand) → PostsDrawn stand → HeldAreReplied stand → HeldAreReplied (turn stand).1
 replied_turn stand below kept = turn_cases stand (λ m. HeldAreReplied m.1)
     kept
     (λ n now is posted. replied_moves stand (passing stand) n now refl [] (sym (append-nil stand.history)) (kept n now is posted))
