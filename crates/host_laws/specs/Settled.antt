@@ -7,6 +7,8 @@ use Rattle.task_history.specs.declared.task.Task.{Task}
 use Rattle.task_history.specs.declared.record.Event.{Event}
 use Rattle.task_history.specs.declared.record.Event.TheVariants.{Settle}
 use Rattle.task_history.specs.declared.record.Settlement.TheVariants.{Entry}
+use Rattle.host_meaning.specs.declared.moves.Move.TheVariants.{Blocked}
+use Rattle.host_meaning.specs.Machine.{turn, NoneLeft}
 use Rattle.host_meaning.specs.Stand.{Stand, drawn, is_settled}
 use Rattle.host_meaning.specs.Settlement.{times_settled}
 
@@ -37,3 +39,11 @@ PostsOnce stand = (n : ℕ) (one other : IsPosted stand.history n) → (one.isol
 -- where a call was settled by entry p of isolate i, reply p of those that were received from it answers the call
 abbrev pub SettlesByReplies : List Event → Type 0
 SettlesByReplies history = (n i p : ℕ) → Contains history (Settle n (Entry i p)) → slice_get (replies (receives i history)) p ≡ Some (Some n)
+
+-- every number that was drawn is settled
+abbrev pub AllAreSettled : Stand → Type 0
+AllAreSettled stand = (n : ℕ) → n < drawn stand → is_settled stand n ≡ true
+
+-- where the host can't go on, no command is left
+abbrev pub WaitsForNothing : Stand → Type 0
+WaitsForNothing stand = (turn stand).0 ≡ Blocked → NoneLeft stand
