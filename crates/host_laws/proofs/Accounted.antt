@@ -19,13 +19,15 @@ use Rattle.host_meaning.specs.declared.moves.Held.{Held}
 use Rattle.host_meaning.specs.declared.moves.Held.TheVariants as held
 use Rattle.host_meaning.specs.Stand.{Stand, beginning, drawn, is_there, is_settled}
 use Rattle.host_meaning.specs.Machine.{turn, task_of, drawing, posting, settling, received, received_all, held_by, HostRun}
+use Rattle.host_laws.specs.Settled.{PostsDrawn, PostsOnce, AccountsForEach}
+pub use Rattle.host_laws.specs.Settled.{IsPosted}
 use Rattle.host_laws.proofs.Turns.{turn_cases, received_cases, run_keeps}
 use Rattle.host_laws.proofs.Lists.{posts_more, slice_get-append_left, slice_get-append_here, slice_get-push_cases, none_there, posts_post_here, posts_post_there, by_quiet, posts_received, received_by, replies_more}
 use Rattle.host_laws.proofs.Settled.{once, settled_push, settled_set, open_is}
 
 -- ---- numbers that are drawn, and settled numbers, stay so
 
-length_set : {A : Type 0} (xs : List A) (k : ℕ) (x : A) → length (slice_set xs k x) ≡ length xs
+pub length_set : {A : Type 0} (xs : List A) (k : ℕ) (x : A) → length (slice_set xs k x) ≡ length xs
 length_set [] k x = refl
 length_set (y ∷ xs) zero x = refl
 length_set (y ∷ xs) (suc k) x = ap suc (length_set xs k x)
@@ -72,24 +74,8 @@ settled_received stand i out n is = received_cases stand i out (λ s. is_settled
 
 -- ---- numbers of the tasks that were posted
 
--- a task with call n was posted to an isolate, at a place among the tasks that were posted to it
-pub record IsPosted (history : List Event) (n : ℕ) : Type 0 where
-  pub isolate : ℕ
-  pub place : ℕ
-  pub task : Task
-  pub at : slice_get (posts isolate history) place ≡ Some task
-  pub named : task.call ≡ Some n
-
--- every number that was posted was drawn
-abbrev pub PostedAreDrawn : Stand → Type 0
-PostedAreDrawn stand = (n : ℕ) → IsPosted stand.history n → n < drawn stand
-
--- a number was posted once, to one isolate
-abbrev pub PostedOnce : Stand → Type 0
-PostedOnce stand = (n : ℕ) (one other : IsPosted stand.history n) → (one.isolate ≡ other.isolate) × (one.place ≡ other.place)
-
 -- where a history has one more post, a number was posted before, or by it
-posted_cases : (history : List Event) (j : ℕ) (new : Task) (n : ℕ) (is : IsPosted (history ++ Post j new ∷ []) n)
+pub posted_cases : (history : List Event) (j : ℕ) (new : Task) (n : ℕ) (is : IsPosted (history ++ Post j new ∷ []) n)
     → (slice_get (posts is.isolate history) is.place ≡ Some is.task) ⊎ ((is.isolate ≡ j) × (is.place ≡ length (posts j history)) × (is.task ≡ new))
 posted_cases history j new n is =
     elim (cases_eq is.isolate j) as (λ x. (slice_get (posts is.isolate history) is.place ≡ Some is.task) ⊎ ((is.isolate ≡ j) × (is.place ≡ length (posts j history)) × (is.task ≡ new))) [
@@ -107,7 +93,7 @@ posted_cases history j new n is =
         ]
 
 -- a history with the same posts has the same numbers
-same_posted : (history next : List Event) → ((i : ℕ) → posts i next ≡ posts i history) → (n : ℕ) → IsPosted next n → IsPosted history n
+pub same_posted : (history next : List Event) → ((i : ℕ) → posts i next ≡ posts i history) → (n : ℕ) → IsPosted next n → IsPosted history n
 same_posted history next same n is =
     record { isolate = is.isolate; place = is.place; task = is.task; at = subst (λ x. slice_get x is.place ≡ Some is.task) (same is.isolate) is.at; named = is.named }
 
@@ -120,18 +106,18 @@ still_posted history more n is = record {
   named = is.named;
 }
 
-posts_drawing : (stand : Stand) (settled : Option Held) (stops : List ℕ) (event : Event) → ((i : ℕ) → post_of i event ≡ []) → (i : ℕ) → posts i (drawing stand settled stops event).history ≡ posts i stand.history
+pub posts_drawing : (stand : Stand) (settled : Option Held) (stops : List ℕ) (event : Event) → ((i : ℕ) → post_of i event ≡ []) → (i : ℕ) → posts i (drawing stand settled stops event).history ≡ posts i stand.history
 posts_drawing stand settled stops event quiet i = by_quiet (post_of i) stand.history event (quiet i)
 
 -- ---- posted numbers are drawn
 
-drawn_quiet : (stand : Stand) (settled : Option Held) (stops : List ℕ) (event : Event) → ((i : ℕ) → post_of i event ≡ []) → PostedAreDrawn stand → PostedAreDrawn (drawing stand settled stops event)
+drawn_quiet : (stand : Stand) (settled : Option Held) (stops : List ℕ) (event : Event) → ((i : ℕ) → post_of i event ≡ []) → PostsDrawn stand → PostsDrawn (drawing stand settled stops event)
 drawn_quiet stand settled stops event quiet kept n is =
     let below = kept n (same_posted stand.history (stand.history ++ event ∷ []) (posts_drawing stand settled stops event quiet) n is) in
     let more = drawn_drawing stand settled stops event in
     grind (arith, below, more)
 
-drawn_posting : (stand : Stand) (i budget : ℕ) (kind : TaskKind) → PostedAreDrawn stand → PostedAreDrawn (posting stand i (task_of stand budget kind))
+drawn_posting : (stand : Stand) (i budget : ℕ) (kind : TaskKind) → PostsDrawn stand → PostsDrawn (posting stand i (task_of stand budget kind))
 drawn_posting stand i budget kind kept n is =
     let more = drawn_drawing stand None [] (Post i (task_of stand budget kind)) in
     elim (posted_cases stand.history i (task_of stand budget kind) n is) as (λ x. n < drawn (posting stand i (task_of stand budget kind))) [
@@ -142,9 +128,9 @@ drawn_posting stand i budget kind kept n is =
     some_same : (a b : ℕ) → Some a ≡ Some b → a ≡ b
     some_same a b e = cc
 
-pub posted_are_drawn : (script : HostScript) (stand : Stand) → HostRun script stand → PostedAreDrawn stand
-posted_are_drawn script = run_keeps script PostedAreDrawn (λ n is. cc is.at)
-    (λ s run kept. turn_cases s (λ m. PostedAreDrawn m.1)
+pub posted_are_drawn : (script : HostScript) (stand : Stand) → HostRun script stand → PostsDrawn stand
+posted_are_drawn script = run_keeps script PostsDrawn (λ n is. cc is.at)
+    (λ s run kept. turn_cases s (λ m. PostsDrawn m.1)
     kept
     kept
     (drawn_quiet s (Some held.Nothing) [] (Settle (drawn s) (how.Own Disposed)) (λ i. refl) kept)
@@ -157,21 +143,21 @@ posted_are_drawn script = run_keeps script PostedAreDrawn (λ n is. cc is.at)
 
 -- ---- a number is posted once
 
-once_quiet : (stand : Stand) (next : List Event) → ((i : ℕ) → posts i next ≡ posts i stand.history) → PostedOnce stand → (n : ℕ) (one other : IsPosted next n) → (one.isolate ≡ other.isolate) × (one.place ≡ other.place)
+once_quiet : (stand : Stand) (next : List Event) → ((i : ℕ) → posts i next ≡ posts i stand.history) → PostsOnce stand → (n : ℕ) (one other : IsPosted next n) → (one.isolate ≡ other.isolate) × (one.place ≡ other.place)
 unfolding same_posted
 once_quiet stand next same kept n one other = kept n (same_posted stand.history next same n one) (same_posted stand.history next same n other)
 
 -- a number below those that are drawn isn't the next one
 not_next : (stand : Stand) (i budget : ℕ) (kind : TaskKind) (n : ℕ) (is : IsPosted (stand.history ++ Post i (task_of stand budget kind) ∷ []) n)
-    → PostedAreDrawn stand → slice_get (posts is.isolate stand.history) is.place ≡ Some is.task → n ≡ drawn stand → ⊥
+    → PostsDrawn stand → slice_get (posts is.isolate stand.history) is.place ≡ Some is.task → n ≡ drawn stand → ⊥
 not_next stand i budget kind n is below old same =
     let l = below n (record { isolate = is.isolate; place = is.place; task = is.task; at = old; named = is.named }) in
     grind (arith, l, same)
 
-is_next : (stand : Stand) (budget : ℕ) (kind : TaskKind) (n : ℕ) (task : Task) → task.call ≡ Some n → task ≡ task_of stand budget kind → n ≡ drawn stand
+pub is_next : (stand : Stand) (budget : ℕ) (kind : TaskKind) (n : ℕ) (task : Task) → task.call ≡ Some n → task ≡ task_of stand budget kind → n ≡ drawn stand
 is_next stand budget kind n task named same = let e : Some n ≡ Some (drawn stand) = sym named ∙ ap (λ t. t.call) same in cc
 
-once_posting : (stand : Stand) (i budget : ℕ) (kind : TaskKind) → PostedAreDrawn stand → PostedOnce stand → PostedOnce (posting stand i (task_of stand budget kind))
+once_posting : (stand : Stand) (i budget : ℕ) (kind : TaskKind) → PostsDrawn stand → PostsOnce stand → PostsOnce (posting stand i (task_of stand budget kind))
 once_posting stand i budget kind below kept n one other =
     elim (posted_cases stand.history i (task_of stand budget kind) n one) as (λ x. (one.isolate ≡ other.isolate) × (one.place ≡ other.place)) [
       | inl old ↦ elim (posted_cases stand.history i (task_of stand budget kind) n other) as (λ x. (one.isolate ≡ other.isolate) × (one.place ≡ other.place)) [
@@ -184,9 +170,9 @@ once_posting stand i budget kind below kept n one other =
       ]
     ]
 
-pub posted_once : (script : HostScript) (stand : Stand) → HostRun script stand → PostedOnce stand
-posted_once script = run_keeps script PostedOnce (λ n one other. cc one.at)
-    (λ s run kept. turn_cases s (λ m. PostedOnce m.1)
+pub posted_once : (script : HostScript) (stand : Stand) → HostRun script stand → PostsOnce stand
+posted_once script = run_keeps script PostsOnce (λ n one other. cc one.at)
+    (λ s run kept. turn_cases s (λ m. PostsOnce m.1)
     kept
     kept
     (once_quiet s (s.history ++ Settle (drawn s) (how.Own Disposed) ∷ []) (posts_drawing s (Some held.Nothing) [] (Settle (drawn s) (how.Own Disposed)) (λ i. refl)) kept)
@@ -230,7 +216,7 @@ accounted_received stand i out kept n below =
       | inr is ↦ inr (same_posted (received stand i out).history stand.history (λ j. sym (posts_received stand i out j)) n is)
     ]
 
-pub accounted : (script : HostScript) (stand : Stand) → HostRun script stand → (n : ℕ) → n < drawn stand → IsAccounted stand n
+pub accounted : (script : HostScript) (stand : Stand) → HostRun script stand → AccountsForEach stand
 accounted script = run_keeps script (λ s. (n : ℕ) → n < drawn s → IsAccounted s n) (λ n below. absurd (grind (arith, below)))
     (λ s run kept. turn_cases s (λ m. (n : ℕ) → n < drawn m.1 → IsAccounted m.1 n)
     kept

@@ -4,6 +4,8 @@ pub mod Settled
 pub mod Accounted
 pub mod Told
 pub mod Numbers
+pub mod Contexts
+pub mod Replied
 pub mod Known
 pub mod Causes
 pub mod Entries

@@ -1,7 +1,6 @@
 -- The replies by which calls were settled.
 use Rattle.std.proofs.Common.{◌≡◌, ℕ, List, [], ◌∷◌, ◌++◌, Some, refl, subst, sym, ap, ◌∙◌, inl, inr, slice_get, append-nil}
 use Rattle.std.proofs.lemmas.List.Elements.{Contains-append_cases, Contains-push_cases}
-use Rattle.std.specs.List.{Contains}
 use Rattle.task_history.specs.Lists.{receives, replies, receive_of}
 use Rattle.task_history.specs.declared.task.Own.TheVariants.{Disposed}
 use Rattle.task_history.specs.declared.outcome.Outcome.{Outcome}
@@ -14,12 +13,9 @@ use Rattle.task_history.specs.declared.record.Event.TheVariants.{Post, Recv, Ask
 use Rattle.host_syntax.specs.declared.script.HostScript.{HostScript}
 use Rattle.host_meaning.specs.Stand.{Stand, drawn}
 use Rattle.host_meaning.specs.Machine.{task_of, received, settling, replies_of, HostRun}
+use Rattle.host_laws.specs.Settled.{SettlesByReplies}
 use Rattle.host_laws.proofs.Turns.{turn_cases, received_cases, run_keeps}
 use Rattle.host_laws.proofs.Lists.{none_there, receives_more, replies_more, slice_get-append_left, slice_get-append_here, same_if}
-
--- where a call was settled by entry p of isolate i, reply p of those that were received from it answers the call
-abbrev pub IsTold : List Event → Type 0
-IsTold history = (n i p : ℕ) → Contains history (Settle n (how.Entry i p)) → slice_get (replies (receives i history)) p ≡ Some (Some n)
 
 told_grows : (i p n : ℕ) (history more : List Event) → slice_get (replies (receives i history)) p ≡ Some (Some n) → slice_get (replies (receives i (history ++ more))) p ≡ Some (Some n)
 told_grows i p n history more is =
@@ -27,7 +23,7 @@ told_grows i p n history more is =
     (slice_get-append_left (replies (receives i history)) (replies (receives i more)) p (Some n) is)
 
 -- an event that settles nothing by an entry
-told_push : (history : List Event) (event : Event) → ((n i p : ℕ) → event ≡ Settle n (how.Entry i p) → ⊥) → IsTold history → IsTold (history ++ event ∷ [])
+told_push : (history : List Event) (event : Event) → ((n i p : ℕ) → event ≡ Settle n (how.Entry i p) → ⊥) → SettlesByReplies history → SettlesByReplies (history ++ event ∷ [])
 told_push history event other kept n i p there =
     elim (Contains-push_cases history event (Settle n (how.Entry i p)) there) as (λ x. slice_get (replies (receives i (history ++ event ∷ []))) p ≡ Some (Some n)) [
       | inl old ↦ told_grows i p n history (event ∷ []) (kept n i p old)
@@ -51,8 +47,8 @@ told_here i m outcome history event quiet =
     subst (λ x. slice_get x (replies_of i history) ≡ Some (Some m)) (sym all) (slice_get-append_here (replies (receives i history)) [] (Some m))
 
 -- a receipt, and the settlement by it
-told_settling : (stand : Stand) (i m : ℕ) (outcome : Outcome) → IsTold stand.history
-    → IsTold (stand.history ++ Recv i (Reply (Some m) outcome) ∷ Settle m (how.Entry i (replies_of i stand.history)) ∷ [])
+told_settling : (stand : Stand) (i m : ℕ) (outcome : Outcome) → SettlesByReplies stand.history
+    → SettlesByReplies (stand.history ++ Recv i (Reply (Some m) outcome) ∷ Settle m (how.Entry i (replies_of i stand.history)) ∷ [])
 told_settling stand i m outcome kept n j p there =
     elim (Contains-append_cases stand.history (received_now ∷ settled_now ∷ []) (Settle n (how.Entry j p)) there) as (λ x. Goal) [
       | inl old ↦ told_grows j p n stand.history (received_now ∷ settled_now ∷ []) (kept n j p old)
@@ -81,14 +77,14 @@ told_settling stand i m outcome kept n j p there =
         (subst (λ x. slice_get (replies (receives x (stand.history ++ received_now ∷ settled_now ∷ []))) (replies_of i stand.history) ≡ Some (Some m)) ei
         (told_here i m outcome stand.history settled_now (settle_is_quiet i m (how.Entry i (replies_of i stand.history))))))
 
-told_received : (stand : Stand) (i : ℕ) (out : Out) → IsTold stand.history → IsTold (received stand i out).history
-told_received stand i out kept = received_cases stand i out (λ s. IsTold s.history)
+told_received : (stand : Stand) (i : ℕ) (out : Out) → SettlesByReplies stand.history → SettlesByReplies (received stand i out).history
+told_received stand i out kept = received_cases stand i out (λ s. SettlesByReplies s.history)
     (λ _. told_push stand.history (Recv i out) (λ n j p e. cc) kept)
-    (λ m outcome is _. subst (λ x. IsTold (settling stand i x m outcome).history) (sym is) (told_settling stand i m outcome kept))
+    (λ m outcome is _. subst (λ x. SettlesByReplies (settling stand i x m outcome).history) (sym is) (told_settling stand i m outcome kept))
 
-pub told : (script : HostScript) (stand : Stand) → HostRun script stand → IsTold stand.history
-told script = run_keeps script (λ s. IsTold s.history) (λ n i p there. absurd (none_there (Settle n (how.Entry i p)) there))
-    (λ s run kept. turn_cases s (λ m. IsTold m.1.history)
+pub told : (script : HostScript) (stand : Stand) → HostRun script stand → SettlesByReplies stand.history
+told script = run_keeps script (λ s. SettlesByReplies s.history) (λ n i p there. absurd (none_there (Settle n (how.Entry i p)) there))
+    (λ s run kept. turn_cases s (λ m. SettlesByReplies m.1.history)
     kept
     kept
     (told_push s.history (Settle (drawn s) (how.Own Disposed)) (own_is_no_entry (drawn s)) kept)

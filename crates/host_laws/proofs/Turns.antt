@@ -11,7 +11,7 @@ use Rattle.host_syntax.specs.declared.script.Command.{Command}
 use Rattle.host_meaning.specs.declared.moves.Move.{Move}
 use Rattle.host_meaning.specs.declared.moves.Move.TheVariants.{Post, Ask, Own, Blocked}
 use Rattle.host_meaning.specs.Stand.{Stand, beginning, place, drawn}
-use Rattle.host_meaning.specs.Machine.{Request, asks_nothing, asks_task, asks_stop, request, is_blocked, most_calls, task_of, passing, refusing, posting, asking, calling, doing, by_command, turn, is_open, hearing, settling, received, received_all, HostRun}
+use Rattle.host_meaning.specs.Machine.{Request, asks_nothing, asks_task, asks_stop, request, is_blocked, most_calls, task_of, passing, refusing, posting, asking, calling, doing, by_command, turn, is_open, hearing, settling, received, received_all, MayReceive, HostRun}
 use Rattle.host_meaning.specs.Machine.HostStep.{turns, receives_one}
 use Rattle.host_meaning.specs.Machine.HostRun.{begins, goes}
 
@@ -38,32 +38,64 @@ pub record MayAsk (stand : Stand) (i : ℕ) : Type 0 where
   pub asked : IsAsked stand (asks_stop i)
   pub here : is_gone i stand.history ≡ false
 
+-- a command that draws no number: it is no call, or all numbers are drawn
+pub record MayPass (stand : Stand) : Type 0 where
+  pub command : Command
+  pub at : slice_get stand.script.commands (place stand) ≡ Some command
+  pub why : (request stand command.what ≡ asks_nothing) ⊎ (nat_le most_calls (drawn stand) ≡ true)
+
+-- the isolate to which a request goes
+abbrev pub GoesTo : Request → ℕ → Type 0
+GoesTo asks_nothing i = ⊥
+GoesTo (asks_task j budget kind) i = j ≡ i
+GoesTo (asks_stop j) i = j ≡ i
+
+-- a call that is refused: its isolate was asked to stop or has told its end
+pub record IsRefused (stand : Stand) : Type 0 where
+  pub wanted : Request
+  pub isolate : ℕ
+  pub asked : IsAsked stand wanted
+  pub to : GoesTo wanted isolate
+  pub gone : is_gone isolate stand.history ≡ true
+
 module _ (stand : Stand) (P : Move × Stand → Type 0)
     (blocked : P (Blocked, stand))
-    (passed : P (Own, passing stand))
-    (refused : P (Own, refusing stand))
+    (passed : MayPass stand → P (Own, passing stand))
+    (refused : IsRefused stand → P (Own, refusing stand))
     (posted : (i budget : ℕ) (kind : TaskKind) → MayPost stand i budget kind → P (Post i (task_of stand budget kind), posting stand i (task_of stand budget kind)))
     (asked : (i : ℕ) → MayAsk stand i → P (Ask i, asking stand i)) where
   calling_cases : (wanted : Request) → IsAsked stand wanted → P (calling stand wanted)
-  calling_cases asks_nothing is = passed
+  calling_cases asks_nothing is = passed (record { command = is.command; at = is.at; why = inl is.is })
   calling_cases (asks_task i budget kind) is =
       if_cases (is_gone i stand.history) P (Own, refusing stand) (Post i (task_of stand budget kind), posting stand i (task_of stand budget kind))
-      (λ _. refused) (λ here. posted i budget kind (record { asked = is; here = here }))
+      (λ gone. refused (record { wanted = asks_task i budget kind; isolate = i; asked = is; to = refl; gone = gone })) (λ here. posted i budget kind (record { asked = is; here = here }))
   calling_cases (asks_stop i) is =
-      if_cases (is_gone i stand.history) P (Own, refusing stand) (Ask i, asking stand i) (λ _. refused) (λ here. asked i (record { asked = is; here = here }))
+      if_cases (is_gone i stand.history) P (Own, refusing stand) (Ask i, asking stand i)
+      (λ gone. refused (record { wanted = asks_stop i; isolate = i; asked = is; to = refl; gone = gone })) (λ here. asked i (record { asked = is; here = here }))
 
   command_cases : (command : Command) → slice_get stand.script.commands (place stand) ≡ Some command → P (by_command stand (Some command))
   command_cases command at =
       if_cases (is_blocked stand command.what) P (Blocked, stand) (doing stand (request stand command.what)) (λ _. blocked)
-      (λ free. if_cases (nat_le most_calls (drawn stand)) P (Own, passing stand) (calling stand (request stand command.what)) (λ _. passed)
+      (λ free. if_cases (nat_le most_calls (drawn stand)) P (Own, passing stand) (calling stand (request stand command.what))
+      (λ full. passed (record { command = command; at = at; why = inr full }))
       (λ room. calling_cases (request stand command.what) (record { command = command; at = at; free = free; room = room; is = refl })))
 
   next_cases : (next : Option Command) → slice_get stand.script.commands (place stand) ≡ next → P (by_command stand next)
   next_cases None at = blocked
   next_cases (Some command) at = command_cases command at
 
-  pub turn_cases : P (turn stand)
-  turn_cases = next_cases (slice_get stand.script.commands (place stand)) refl
+  -- with what each case shows of the command
+  pub turn_cases_shown : P (turn stand)
+  turn_cases_shown = next_cases (slice_get stand.script.commands (place stand)) refl
+
+pub turn_cases : (stand : Stand) (P : Move × Stand → Type 0)
+    → P (Blocked, stand)
+    → P (Own, passing stand)
+    → P (Own, refusing stand)
+    → ((i budget : ℕ) (kind : TaskKind) → MayPost stand i budget kind → P (Post i (task_of stand budget kind), posting stand i (task_of stand budget kind)))
+    → ((i : ℕ) → MayAsk stand i → P (Ask i, asking stand i))
+    → P (turn stand)
+turn_cases stand P blocked passed refused posted asked = turn_cases_shown stand P blocked (λ _. passed) (λ _. refused) posted asked
 
 -- a command that posts or asks, or is done by the host alone, isn't blocked
 calling_goes : (stand : Stand) (wanted : Request) → (calling stand wanted).0 ≢ Blocked
@@ -174,17 +206,25 @@ numbers_received_all stand i [] = refl
 numbers_received_all stand i (out ∷ outs) = numbers_received_all (received stand i out) i outs ∙ numbers_received stand i out
 
 -- what holds at the beginning and is kept by commands and receipts holds of every run
+pub run_keeps_heard : (script : HostScript) (P : Stand → Type 0)
+    → P (beginning script)
+    → ((stand : Stand) → HostRun script stand → P stand → P (turn stand).1)
+    → ((stand : Stand) (i : ℕ) (out : Out) → HostRun script stand → MayReceive stand.script i out → P stand → P (received stand i out))
+    → (stand : Stand) → HostRun script stand → P stand
+run_keeps_heard script P first turned heard stand begins = first
+run_keeps_heard script P first turned heard next (goes {stand} run step) =
+    elim step as (λ x. P next) [
+      | turns moves now ↦ subst P (sym now) (turned stand run (run_keeps_heard script P first turned heard stand run))
+      | receives_one i out may now ↦ subst P (sym now) (heard stand i out run may (run_keeps_heard script P first turned heard stand run))
+    ]
+
+-- the same, of any out at all
 pub run_keeps : (script : HostScript) (P : Stand → Type 0)
     → P (beginning script)
     → ((stand : Stand) → HostRun script stand → P stand → P (turn stand).1)
     → ((stand : Stand) (i : ℕ) (out : Out) → HostRun script stand → P stand → P (received stand i out))
     → (stand : Stand) → HostRun script stand → P stand
-run_keeps script P first turned heard stand begins = first
-run_keeps script P first turned heard next (goes {stand} run step) =
-    elim step as (λ x. P next) [
-      | turns moves now ↦ subst P (sym now) (turned stand run (run_keeps script P first turned heard stand run))
-      | receives_one i out may now ↦ subst P (sym now) (heard stand i out run (run_keeps script P first turned heard stand run))
-    ]
+run_keeps script P first turned heard = run_keeps_heard script P first turned (λ s i out run _. heard s i out run)
 
 pub script_run : (script : HostScript) (stand : Stand) → HostRun script stand → stand.script ≡ script
 script_run script = run_keeps script (λ stand. stand.script ≡ script) refl

@@ -7,3 +7,8 @@
 #![tactic(auto)]
 
 mod laws;
+
+pub use laws::{
+    calls_are_settled_or_posted, each_call_is_settled_once, numbers_are_posted_once,
+    posted_tasks_are_known, settlements_are_replied, the_host_waits_for_calls_alone,
+};
