@@ -1,13 +1,12 @@
 -- Causes stay while a history and a journal go on.
-use Rattle.std.proofs.Common.{◌≡◌, ℕ, ◌+◌, ◌<◌, ◌≤◌, List, [], ◌∷◌, ◌++◌, length, true, refl, subst, sym, ap, ◌∙◌, arith, append-nil, append_assoc, length-append, if◌then◌else◌, ◌==◌}
+use Rattle.std.proofs.Common.{◌≡◌, ℕ, ◌<◌, ◌≤◌, List, [], ◌∷◌, ◌++◌, length, subst, sym, ap, ◌∙◌, arith, append-nil, append_assoc, length-append}
 use Rattle.std.proofs.lemmas.List.Concat.{flat_map-append}
-use Rattle.std.specs.List.{flat_map}
 use Rattle.task_history.specs.declared.outcome.Out.{Out}
 use Rattle.task_history.specs.declared.record.Entry.{Entry}
 use Rattle.task_history.specs.declared.record.Event.{Event}
 use Rattle.task_history.specs.declared.record.Event.TheVariants.{Post, Recv, Ask, Release, Settle}
 use Rattle.task_history.specs.Lists.{outs, receives, receive_of}
-use Rattle.host_meaning.specs.Lawful.{StandsIn, IsCaused, IsCausedBy, AreCaused}
+use Rattle.host_meaning.specs.Lawful.{IsCaused, IsCausedBy, AreCaused}
 use Rattle.host_laws.proofs.Lists.{same_if}
 
 -- ---- a history that goes on
@@ -23,6 +22,9 @@ caused_push i journal history event by caused = caused_more i journal [] history
 
 -- ---- a journal that goes on
 
+same_both : (x y : Entry) (xs ys : List Entry) → x ≡ y → xs ≡ ys → x ∷ xs ≡ y ∷ ys
+same_both x y xs ys head tail = ap (λ z. z ∷ xs) head ∙ ap (λ z. y ∷ z) tail
+
 -- an entry that has an out of a journal's front stands in this front
 stands_before : (journal more front rest : List Entry) (entry : Entry) → journal ++ more ≡ front ++ entry ∷ rest → length (outs front) < length (outs journal) → (left : List Entry) × (journal ≡ front ++ entry ∷ left)
 stands_before [] more front rest entry e l = absurd (grind (arith, l))
@@ -34,7 +36,7 @@ stands_before (x ∷ journal) more (y ∷ front) rest entry e l =
     let b = length-append y.outs (outs front) in
     let c : length x.outs ≡ length y.outs = ap (λ z. length z.outs) same in
     let found = stands_before journal more front rest entry tail (grind (arith, l, a, b, c)) in
-    (found.0, ap (λ z. z ∷ journal) same ∙ ap (λ z. y ∷ z) found.1)
+    (found.0, same_both x y journal (front ++ entry ∷ found.0) same found.1)
 
 is_caused_grown : (i : ℕ) (journal more : List Entry) (history : List Event) → length (receives i history) < length (outs journal) → IsCaused i journal history → IsCaused i (journal ++ more) history
 is_caused_grown i journal more history l caused front entry stands =

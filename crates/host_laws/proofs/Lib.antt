@@ -9,8 +9,12 @@ pub mod Replied
 pub mod Known
 pub mod Causes
 pub mod Entries
-pub mod Apart
+pub mod Beside
 pub mod Targets
-pub mod Answered
 pub mod Workers
 pub mod Sent
+pub mod AnyOrder
+pub mod Rest
+pub mod OneThread
+pub mod Driven
+pub mod Steps

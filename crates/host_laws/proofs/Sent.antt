@@ -1,21 +1,18 @@
 -- What an isolate sends are replies.
-use Rattle.std.proofs.Common.{◌≡◌, ℕ, ◌<◌, List, [], ◌∷◌, ◌++◌, Option, Some, None, refl, subst, sym, ap, ◌∙◌, ◌⊎◌, inl, inr}
+use Rattle.std.proofs.Common.{ℕ, List, [], ◌∷◌, Option, Some, None, subst, sym, inl, inr}
 use Rattle.std.proofs.lemmas.List.Elements.{Contains-append_cases, Contains-push_cases}
-use Rattle.std.specs.List.{Contains}
 use Rattle.task_history.specs.declared.task.Task.{Task}
 use Rattle.task_history.specs.declared.outcome.Outcome.{Outcome}
-use Rattle.task_history.specs.declared.outcome.Out.{Out}
+use Rattle.task_history.specs.declared.outcome.Outcome.TheVariants.{Disposed}
 use Rattle.task_history.specs.declared.outcome.Out.TheVariants.{Reply}
 use Rattle.task_history.specs.declared.record.Entry.{Entry}
 use Rattle.task_history.specs.Lists.{outs}
 use Rattle.isolate_meaning.specs.State.{State, Isolate}
-use Rattle.isolate_meaning.specs.Does.{Does, DoesTo, acts, refuses, HostStop, entry_of, stop_entry}
+use Rattle.isolate_meaning.specs.Does.{DoesTo, acts, refuses, stop_entry}
 use Rattle.isolate_meaning.specs.Replay.{Replay, Stands}
 use Rattle.host_meaning.specs.Machine.{IsReply}
+use Rattle.host_laws.specs.Driving.{AreReplies}
 use Rattle.host_laws.proofs.Lists.{none_there}
-
-abbrev pub AreReplies : List Out → Type 0
-AreReplies sent = (out : Out) → Contains sent out → IsReply out
 
 one_reply : (call : Option ℕ) (told : Outcome) → AreReplies (Reply call told ∷ [])
 one_reply call told out there =
@@ -26,7 +23,7 @@ one_reply call told out there =
 
 by_deed : (task : Task) (old new : State) (entry : Entry) → DoesTo task old new entry → AreReplies entry.outs
 by_deed task old new entry (acts {out = told} deed) = one_reply task.call told
-by_deed task old new entry (refuses {by}) = one_reply task.call (Rattle.task_history.specs.declared.outcome.Outcome.TheVariants.Disposed by)
+by_deed task old new entry (refuses {by}) = one_reply task.call (Disposed by)
 
 pub by_entry : (task : Option Task) (old new : Isolate) (entry : Entry) → Stands task old new entry → AreReplies entry.outs
 by_entry None old new entry stop = subst (λ (e : Entry). AreReplies e.outs) (sym stop.noted) (one_reply None stop_entry.outcome)

@@ -1,5 +1,5 @@
 -- The isolate of a post or an ask is one of the script.
-use Rattle.std.proofs.Common.{◌≡◌, ℕ, ◌<◌, List, [], ◌∷◌, length, Option, Some, None, refl, subst, sym, ap, ◌∙◌, slice_get}
+use Rattle.std.proofs.Common.{◌≡◌, ℕ, ◌<◌, length, Some, refl, subst, sym, ap, ◌∙◌, slice_get}
 use Rattle.std.specs.Option.{option_map_or}
 use Rattle.task_history.specs.declared.task.Task.{Task}
 use Rattle.host_syntax.specs.declared.script.HostScript.{HostScript}
@@ -9,9 +9,9 @@ use Rattle.host_syntax.specs.declared.script.What.TheVariants as what
 use Rattle.host_syntax.specs.Whole.{IsWhole, NamesEarlier, MakesContext, context_of}
 use Rattle.host_meaning.specs.declared.moves.Move.{Move}
 use Rattle.host_meaning.specs.declared.moves.Move.TheVariants.{Post, Ask, Own, Blocked}
-use Rattle.host_meaning.specs.Stand.{Stand, place, drawn}
+use Rattle.host_meaning.specs.Stand.{Stand, place}
 use Rattle.host_meaning.specs.Machine.{Request, asks_nothing, asks_task, asks_stop, request, isolate_of, turn, passing, refusing, task_of, posting, asking}
-use Rattle.host_laws.proofs.Turns.{IsAsked, MayPost, MayAsk, turn_cases}
+use Rattle.host_laws.proofs.Turns.{IsAsked, turn_cases}
 
 -- ---- what a move shows
 

@@ -1,12 +1,16 @@
 -- The isolates of a scene by their numbers; past the last one stands one that was never at work.
-use Rattle.std.proofs.Common.{◌≡◌, ◌≢◌, ℕ, suc, zero, ◌+◌, ◌<◌, ◌≤◌, List, [], ◌∷◌, length, Option, Some, None, refl, subst, sym, ap, ◌∙◌, arith, ◌⊎◌, inl, inr, slice_get, slice_index_or, slice_set}
+use Rattle.std.proofs.Common.{◌≡◌, ◌≢◌, ℕ, suc, zero, ◌+◌, ◌<◌, ◌≤◌, List, [], ◌∷◌, length, Some, refl, subst, sym, ap, ◌∙◌, arith, inl, inr, slice_get, slice_index_or, slice_set}
 use Rattle.std.proofs.lemmas.Bool.{cases_eq}
 use Rattle.std.proofs.lemmas.List.{get_or-set_same, get_or-set_other, get_or_past}
 use Rattle.std.proofs.lemmas.Option.{get_or_from_slice_get}
 use Rattle.host_syntax.specs.declared.script.HostScript.{HostScript}
 use Rattle.host_syntax.specs.declared.script.IsolateDecl.{IsolateDecl}
-use Rattle.host_meaning.specs.Course.{Worker, idle, all_idle}
+use Rattle.host_meaning.specs.Stand.{Stand}
+use Rattle.host_meaning.specs.Course.{Worker, Scene, idle, all_idle}
 use Rattle.host_meaning.specs.Lawful.{LimitIs}
+
+abbrev pub scene_with : Stand → List Worker → Scene
+scene_with stand workers = record { stand = stand; workers = workers }
 
 abbrev pub worker_at : List Worker → ℕ → Worker
 worker_at workers i = slice_index_or workers i (idle i 0)
