@@ -1,6 +1,6 @@
 -- The commands of the run on one thread, as a loop over cells does them.
 use Rattle.std.proofs.Common.{◌≡◌, ◌≢◌, ℕ, suc, zero, ◌+◌, ◌-◌, ◌<◌, List, [], ◌∷◌, ◌++◌, length, map, take, Option, Some, None, refl, subst, sym, ap, ◌∙◌, arith, add-one, inl, inr, slice_get, slice_set, slice_index_or}
-use Rattle.std.proofs.lemmas.Option.{slice_get-map, slice_get_within, slice_get_past}
+use Rattle.std.proofs.lemmas.Option.{slice_get-map, slice_get_within, slice_get_past, slice_get_read}
 use Rattle.std.proofs.lemmas.List.{map-set, length-map, take_more}
 use Rattle.std.specs.List.{Contains}
 use Rattle.std.specs.Option.{option_map}
@@ -55,6 +55,10 @@ map_map : {A B C : Type 0} (f : B → C) (g : A → B) (xs : List A) → map f (
 map_map f g [] = refl
 map_map f g (x ∷ xs) = ap (λ z. f (g x) ∷ z) (map_map f g xs)
 
+-- a cell that was read by its index
+pub cell_there : (cells : List Kept) (i : ℕ) (cell : Kept) → i < length cells → cell ≡ slice_index_or cells i cell → slice_get cells i ≡ Some cell
+cell_there cells i cell l is = slice_get_read cells (length cells) i cell refl l is
+
 -- ---- the beginning
 
 fresh_workers : (n : ℕ) (decls : List IsolateDecl) → map worker_of (fresh_cells n decls) ≡ all_idle n decls
@@ -71,6 +75,9 @@ at_begin script = record {
   run = subst (λ ws. OneThread script (scene_with (beginning script) ws)) (sym (fresh_workers 0 script.isolates)) opens;
   none_void = fresh_there 0 script.isolates;
 }
+
+pub begin_cells : (script : HostScript) (stand : Stand) (cells : List Kept) → stand ≡ beginning script → cells ≡ fresh_cells 0 script.isolates → CellsAre script stand cells
+begin_cells script stand cells begins fresh = subst (λ s. CellsAre script s cells) (sym begins) (subst (λ cs. CellsAre script (beginning script) cs) (sym fresh) (at_begin script))
 
 -- one more fresh cell, for the loop that makes them
 fresh_from : (decls : List IsolateDecl) (n k m : ℕ) (d : IsolateDecl) → m ≡ n + k → k < length decls → fresh_cells n (take (suc k) decls) ≡ fresh_cells n (take k decls) ++ fresh_cell m (slice_index_or decls k d).limit ∷ []
