@@ -1,8 +1,8 @@
 -- What one task does to an isolate, what a stop by the host does, and the entry that each leaves.
 -- This project's own, after isolated-vm's context, reference and `dispose`; docs/MAP.md, "One isolate".
-use Rattle.std.specs.Prelude.{◌≡◌, ℕ, ◌<◌, List, [], ◌∷◌, ◌++◌, length, slice_index_or, slice_set, codes, Option, Some, None}
+use Rattle.std.specs.Prelude.{◌≡◌, ℕ, List, [], ◌∷◌, ◌++◌, length, slice_index_or, slice_set, codes, Some, None}
 use Rattle.std.specs.Option.{unwrap_or}
-use Rattle.small_syntax.specs.Meaning.{Names, Properties, Evaluates, property, with_property}
+use Rattle.small_syntax.specs.Meaning.{Names, Evaluates, property, with_property}
 use Rattle.small_syntax.specs.declared.evaluation.Evaluation.{Evaluation}
 use Rattle.small_syntax.specs.declared.evaluation.Evaluation.TheVariants.{Value, Throw, NotBuilt}
 use Rattle.small_syntax.specs.declared.evaluation.Thrown.TheVariants.{OutOfRange, WrongKind}

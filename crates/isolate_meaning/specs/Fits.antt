@@ -1,7 +1,6 @@
 -- Tasks that an isolate can carry out.
 -- This project's own; docs/MAP.md, "One isolate".
-use Rattle.std.specs.Prelude.{◌≡◌, ℕ, ◌<◌, ◌≤◌, List, [], length}
-use Rattle.ivm_text.specs.declared.copies.Copy.{Copy}
+use Rattle.std.specs.Prelude.{◌≡◌, ◌<◌, ◌≤◌, List, [], length}
 use Rattle.ivm_text.specs.declared.copies.Passed.{Passed}
 use Rattle.ivm_text.specs.declared.copies.Passed.TheVariants as passed
 use Rattle.ivm_text.specs.declared.copies.Want.TheVariants.{Value}

@@ -1,6 +1,6 @@
 -- Tasks whose numbers their isolate has told before.
 -- This project's own; docs/MAP.md, "One isolate".
-use Rattle.std.specs.Prelude.{◌≡◌, ℕ, List, Option}
+use Rattle.std.specs.Prelude.{ℕ, List, Option}
 use Rattle.std.specs.List.{Contains}
 use Rattle.task_history.specs.declared.task.Task.{Task}
 use Rattle.task_history.specs.declared.task.TaskKind.{TaskKind}

@@ -3,3 +3,4 @@ pub mod Fits
 pub mod Does
 pub mod Replay
 pub mod Known
+pub mod Laws

@@ -4,7 +4,7 @@ use Rattle.std.specs.Prelude.{◌≡◌, ℕ, List, [], ◌∷◌, ◌++◌, Boo
 use Rattle.task_history.specs.declared.task.Task.{Task}
 use Rattle.task_history.specs.declared.outcome.By.TheVariants.{Host}
 use Rattle.task_history.specs.declared.record.Entry.{Entry}
-use Rattle.isolate_meaning.specs.State.{Context, State, live, ended, Isolate, fresh, is_ended, IsClosed}
+use Rattle.isolate_meaning.specs.State.{State, live, ended, Isolate, fresh, is_ended, IsClosed}
 use Rattle.isolate_meaning.specs.Fits.{Fits}
 use Rattle.isolate_meaning.specs.Does.{Does, HostStop, stop_entry}
 

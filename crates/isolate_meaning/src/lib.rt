@@ -5,3 +5,10 @@
 //! Over `small_syntax` and `task_history`; under `isolate_core` and `host_meaning`.
 //! Begin with `specs/State.antt`, then `specs/Does.antt` and `specs/Replay.antt`.
 #![tactic(auto)]
+
+mod laws;
+
+pub use laws::{
+    disposals_end, each_task_is_answered_once, ended_isolates_refuse, known_tasks_fit,
+    new_contexts_are_numbered, the_host_alone_ends, told_contexts_are_there,
+};

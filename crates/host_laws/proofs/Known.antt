@@ -1,0 +1,254 @@
+-- What a posted task names was told by its isolate.
+use Rattle.std.proofs.Common.{◌≡◌, ℕ, ◌<◌, List, [], ◌∷◌, ◌++◌, length, Bool, true, false, not, nat_le, ◌==◌, ◌||◌, if◌then◌else◌, Option, Some, None, refl, subst, sym, ap, ◌∙◌, arith, ◌⊎◌, inl, inr, slice_get, slice_index_or}
+use Rattle.std.proofs.lemmas.List.Elements.{Contains-append_left, Contains-append_right, Contains-append_cases, Contains-push_cases}
+use Rattle.std.specs.List.{Contains}
+use Rattle.std.specs.Option.{option_map_or}
+use Rattle.ivm_text.specs.declared.copies.Leaf.{Leaf}
+use Rattle.ivm_text.specs.declared.copies.Leaf.TheVariants.{Undefined, Null, Bool as Boolean, Num, Node}
+use Rattle.task_history.specs.Lists.{posts, receives, tasks, outs, listed, is_gone, is_asked, has_ended, is_disposal, tells_disposal, receive_of, tells_end}
+use Rattle.task_history.specs.declared.task.Task.{Task}
+use Rattle.task_history.specs.declared.task.TaskKind.{TaskKind}
+use Rattle.task_history.specs.declared.task.TaskKind.TheVariants as kind
+use Rattle.task_history.specs.declared.outcome.By.TheVariants.{Host}
+use Rattle.task_history.specs.declared.outcome.Outcome.{Outcome}
+use Rattle.task_history.specs.declared.outcome.Outcome.TheVariants as outcome
+use Rattle.task_history.specs.declared.outcome.Out.{Out}
+use Rattle.task_history.specs.declared.outcome.Out.TheVariants.{Reply}
+use Rattle.task_history.specs.declared.record.Entry.{Entry}
+use Rattle.task_history.specs.declared.record.Event.{Event}
+use Rattle.task_history.specs.declared.record.Event.TheVariants.{Post, Recv, Ask, Release, Settle}
+use Rattle.isolate_meaning.specs.State.{State, live, ended, Isolate, fresh, IsPlain}
+use Rattle.isolate_meaning.specs.Fits.{IsPrimitive}
+use Rattle.isolate_meaning.specs.Does.{DoesTo, acts, refuses, stop_entry}
+use Rattle.isolate_meaning.specs.Replay.{Replay, Stands}
+use Rattle.isolate_meaning.specs.Known.{TellsContext, IsKnown}
+use Rattle.isolate_meaning.specs.Laws.{IsContextReply}
+use Rattle.isolate_meaning.proofs.Told.{context_reply}
+use Rattle.host_syntax.specs.declared.script.HostScript.{HostScript}
+use Rattle.host_syntax.specs.declared.script.Command.{Command}
+use Rattle.host_syntax.specs.declared.script.HostArgument.{HostArgument}
+use Rattle.host_syntax.specs.declared.script.HostArgument.TheVariants.{Literal}
+use Rattle.host_syntax.specs.declared.script.What.{What}
+use Rattle.host_syntax.specs.declared.script.What.TheVariants as what
+use Rattle.host_syntax.specs.Whole.{IsWhole, NamesEarlier, MakesContext, context_of, IsArgument, IsPrimitiveLeaf}
+use Rattle.host_meaning.specs.declared.moves.Held.{Held}
+use Rattle.host_meaning.specs.declared.moves.Move.TheVariants as move
+use Rattle.host_meaning.specs.Stand.{Stand, place, drawn, is_there, is_settled, number_of, is_label_settled, held_of, held_at}
+use Rattle.host_meaning.specs.Machine.{Request, asks_nothing, asks_task, asks_stop, request, is_blocked, isolate_of, context_in, row_in, argument_of, most_calls, task_of, held_by, HostRun}
+use Rattle.host_laws.specs.Known.{IsServed, AreServed, PostsKnown}
+use Rattle.host_laws.proofs.Turns.{turn_cases, MayPost, script_run}
+use Rattle.host_laws.proofs.Lists.{none_there, place_of}
+use Rattle.host_laws.proofs.Accounted.{IsPosted, posted_once}
+use Rattle.host_laws.proofs.Contexts.{PostsContext, ContextFate, contexts_have_fates}
+use Rattle.host_laws.proofs.Replied.{IsReplied, held_are_replied}
+
+-- ---- what a reply tells of its task
+
+-- the making of a context is answered by the context, whose global object has the row of the same number, or by the isolate's end
+abbrev pub AnswersContext : Outcome → Type 0
+AnswersContext out = ((n : ℕ) × (out ≡ outcome.Context n n)) ⊎ (is_disposal out ≡ true)
+
+-- a task of these has call n, and where it makes a context, the outcome answers that
+pub record IsAnswer (done : List Task) (n : ℕ) (out : Outcome) : Type 0 where
+  pub task : Task
+  pub among : Contains done task
+  pub named : task.call ≡ Some n
+  pub makes : task.kind ≡ kind.Context → AnswersContext out
+
+context_answer : (state : State) (out : Outcome) → IsContextReply state out → AnswersContext out
+context_answer (live contexts) out is = inl (length contexts, is)
+context_answer (ended by) out is = inr (ap is_disposal is)
+
+only_one : (x y : Out) → Contains (x ∷ []) y → x ≡ y
+only_one x y there = elim (Contains-push_cases [] x y there) as (λ r. x ≡ y) [ inl none ↦ absurd (none_there y none) | inr same ↦ same ]
+
+-- an entry sends its outcome alone, as the reply to its task's call
+reply_of_deed : (task : Task) (old new : State) (entry : Entry) (n : ℕ) (out : Outcome) → DoesTo task old new entry → Contains entry.outs (Reply (Some n) out) → (task.call ≡ Some n) × (entry.outcome ≡ out)
+reply_of_deed task old new entry n out (acts {out = told} deed) here =
+    let same : Reply task.call told ≡ Reply (Some n) out = only_one (Reply task.call told) (Reply (Some n) out) here in
+    (cc, cc)
+reply_of_deed task old new entry n out (refuses {by = by}) here =
+    let same : Reply task.call (outcome.Disposed by) ≡ Reply (Some n) out = only_one (Reply task.call (outcome.Disposed by)) (Reply (Some n) out) here in
+    (cc, cc)
+
+answer_of_entry : (task : Option Task) (old new : Isolate) (entry : Entry) (n : ℕ) (out : Outcome) → Stands task old new entry → Contains entry.outs (Reply (Some n) out) → IsAnswer (listed task) n out
+answer_of_entry None old new entry n out stop here =
+    let among : Contains stop_entry.outs (Reply (Some n) out) = subst (λ (e : Entry). Contains e.outs (Reply (Some n) out)) stop.noted here in
+    let same : Reply None (outcome.Disposed Host) ≡ Reply (Some n) out = only_one (Reply None (outcome.Disposed Host)) (Reply (Some n) out) among in
+    let no : ⊥ = cc in absurd no
+answer_of_entry (Some task) old new entry n out deed here =
+    let told = reply_of_deed task old.state new.state entry n out deed.does here in
+    record {
+      task = task;
+      among = (0, grind arith, refl);
+      named = told.0;
+      makes = λ is. context_answer old.state out (subst (IsContextReply old.state) told.1 (context_reply task old new entry deed is));
+    }
+
+answer_left : (done more : List Task) (n : ℕ) (out : Outcome) → IsAnswer done n out → IsAnswer (done ++ more) n out
+answer_left done more n out is = record { task = is.task; among = Contains-append_left done more is.task is.among; named = is.named; makes = is.makes }
+
+answer_right : (done more : List Task) (n : ℕ) (out : Outcome) → IsAnswer more n out → IsAnswer (done ++ more) n out
+answer_right done more n out is = record { task = is.task; among = Contains-append_right done more is.task is.among; named = is.named; makes = is.makes }
+
+pub answer_of_journal : (first last : Isolate) (journal : List Entry) (n : ℕ) (out : Outcome) → Replay first journal last → Contains (outs journal) (Reply (Some n) out) → IsAnswer (tasks journal) n out
+answer_of_journal first last [] n out whole here = absurd (none_there (Reply (Some n) out) here)
+answer_of_journal first last (entry ∷ journal) n out whole here =
+    elim (Contains-append_cases entry.outs (outs journal) (Reply (Some n) out) here) as (λ x. IsAnswer (tasks (entry ∷ journal)) n out) [
+      | inl now ↦ answer_left (listed entry.task) (tasks journal) n out (answer_of_entry entry.task first whole.0 entry n out whole.1 now)
+      | inr later ↦ answer_right (listed entry.task) (tasks journal) n out (answer_of_journal whole.0 last journal n out whole.2 later)
+    ]
+
+-- ---- an isolate whose end was received is gone
+
+shows_end : (i : ℕ) (event : Event) (out : Out) → Contains (receive_of i event) out → tells_disposal out ≡ true → tells_end i event ≡ true
+shows_end i (Post j task) out here tells = absurd (none_there out here)
+shows_end i (Recv j told) out here tells =
+    (elim (i == j) as (λ b. Contains (if b then told ∷ [] else []) out → (if b then tells_disposal told else false) ≡ true) [
+      | true ↦ λ h. ap tells_disposal (only_one told out h) ∙ tells
+      | false ↦ λ h. absurd (none_there out h)
+    ]) here
+shows_end i (Ask j) out here tells = absurd (none_there out here)
+shows_end i (Release call) out here tells = absurd (none_there out here)
+shows_end i (Settle call how) out here tells = absurd (none_there out here)
+
+or_left : (a b : Bool) → a ≡ true → (a || b) ≡ true
+or_left true b is = refl
+or_left false b is = cc
+
+or_right : (a b : Bool) → b ≡ true → (a || b) ≡ true
+or_right true b is = refl
+or_right false b is = is
+
+pub ended_by_receipt : (i : ℕ) (history : List Event) (out : Out) → Contains (receives i history) out → tells_disposal out ≡ true → has_ended i history ≡ true
+ended_by_receipt i [] out here tells = absurd (none_there out here)
+ended_by_receipt i (event ∷ history) out here tells =
+    elim (Contains-append_cases (receive_of i event) (receives i history) out here) as (λ x. has_ended i (event ∷ history) ≡ true) [
+      | inl now ↦ or_left (tells_end i event) (has_ended i history) (shows_end i event out now tells)
+      | inr later ↦ or_right (tells_end i event) (has_ended i history) (ended_by_receipt i history out later tells)
+    ]
+
+-- ---- a context that a command may name
+
+module _ (script : HostScript) (stand : Stand) (run : HostRun script stand) (served : AreServed stand.script stand.history) where
+  -- a reply to a task of this call, posted to this isolate to make a context, came from this isolate and answers that
+  answers : (isolate n j : ℕ) (out : Outcome) → PostsContext stand.history isolate n → j < length stand.script.isolates → Contains (receives j stand.history) (Reply (Some n) out) → (j ≡ isolate) × AnswersContext out
+  answers isolate n j out posted inside heard =
+      let beside : IsServed j stand.history = served j inside in
+      let sent : Contains (outs beside.journal) (Reply (Some n) out) =
+      subst (λ l. Contains l (Reply (Some n) out)) (sym beside.heard) (Contains-append_left (receives j stand.history) beside.sent (Reply (Some n) out) heard) in
+      let answer : IsAnswer (tasks beside.journal) n out = answer_of_journal (fresh j beside.limit) beside.replays.0 beside.journal n out beside.replays.1 sent in
+      let among : Contains (posts j stand.history) answer.task =
+      subst (λ l. Contains l answer.task) (sym beside.posted) (Contains-append_left (tasks beside.journal) beside.waiting answer.task answer.among) in
+      let there = place_of (posts j stand.history) answer.task among in
+      let one : IsPosted stand.history n = record { isolate = j; place = there.0; task = answer.task; at = there.1; named = answer.named } in
+      let other : IsPosted stand.history n = record { isolate = isolate; place = posted.place; task = posted.task; at = posted.at; named = posted.named } in
+      let same : (j ≡ isolate) × (there.0 ≡ posted.place) = posted_once script stand run n one other in
+      let at : slice_get (posts isolate stand.history) posted.place ≡ Some answer.task =
+      subst (λ i. slice_get (posts i stand.history) posted.place ≡ Some answer.task) same.0 (subst (λ p. slice_get (posts j stand.history) p ≡ Some answer.task) same.1 there.1) in
+      let tasks_same : posted.task ≡ answer.task = some_same posted.task answer.task (sym posted.at ∙ at) in
+      (same.0, answer.makes (ap (λ (t : Task). t.kind) (sym tasks_same) ∙ posted.makes))
+    where
+      some_same : (a b : Task) → Some a ≡ Some b → a ≡ b
+      some_same a b e = cc
+
+  -- what such a reply makes of the call
+  told_by : (isolate n : ℕ) (now : Held) (out : Outcome) → is_gone isolate stand.history ≡ false → Contains (receives isolate stand.history) (Reply (Some n) out) → now ≡ held_by out → AnswersContext out
+      → TellsContext (receives isolate stand.history) (context_in (Some now)) (row_in (Some now))
+  told_by isolate n now out here heard is (inl (c, makes)) =
+      subst (λ h. TellsContext (receives isolate stand.history) (context_in (Some h)) (row_in (Some h))) (sym (is ∙ ap held_by makes))
+      (Some n, subst (λ o. Contains (receives isolate stand.history) (Reply (Some n) o)) makes heard)
+  told_by isolate n now out here heard is (inr over) =
+      let gone : is_gone isolate stand.history ≡ true = or_right (is_asked isolate stand.history) (has_ended isolate stand.history) (ended_by_receipt isolate stand.history (Reply (Some n) out) heard over) in
+      let no : ⊥ = cc in absurd no
+
+  by_call : (isolate n : ℕ) (call : Option Held) → slice_index_or stand.calls n None ≡ call → PostsContext stand.history isolate n → is_there call ≡ true → is_gone isolate stand.history ≡ false
+      → TellsContext (receives isolate stand.history) (context_in call) (row_in call)
+  by_call isolate n None is posted settled here = let no : ⊥ = cc in absurd no
+  by_call isolate n (Some now) is posted settled here =
+      let replied : IsReplied stand n now = held_are_replied script stand run n now is (record { isolate = isolate; place = posted.place; task = posted.task; at = posted.at; named = posted.named }) in
+      let answer = answers isolate n replied.isolate replied.outcome posted replied.inside replied.heard in
+      told_by isolate n now replied.outcome here (subst (λ j. Contains (receives j stand.history) (Reply (Some n) replied.outcome)) answer.0 replied.heard) replied.is answer.1
+
+  by_number : (isolate : ℕ) (number : Option ℕ) → ContextFate stand isolate number → option_map_or (is_settled stand) number true ≡ true → nat_le most_calls (drawn stand) ≡ false → is_gone isolate stand.history ≡ false
+      → TellsContext (receives isolate stand.history) (context_in (held_of stand number)) (row_in (held_of stand number))
+  by_number isolate None full settled room here = let no : ⊥ = cc in absurd no
+  by_number isolate (Some n) (inl gone) settled room here = let no : ⊥ = cc in absurd no
+  by_number isolate (Some n) (inr posted) settled room here = by_call isolate n (slice_index_or stand.calls n None) refl posted settled here
+
+  -- where a command's context is settled and its isolate isn't gone, the isolate told the context
+  pub context_told : (k : ℕ) → MakesContext stand.script.commands (place stand) k → is_label_settled stand k ≡ true → nat_le most_calls (drawn stand) ≡ false → is_gone (isolate_of stand.script k) stand.history ≡ false
+      → TellsContext (receives (isolate_of stand.script k) stand.history) (context_in (held_at stand k)) (row_in (held_at stand k))
+  context_told k (command, isolate, below, at, makes) settled room here =
+      let same : isolate_of stand.script k ≡ isolate =
+      ap (λ c. option_map_or (λ (c : Command). option_map_or (λ i. i) (context_of c.what) 0) c 0) at ∙ ap (λ i. option_map_or (λ i. i) i 0) makes in
+      subst (λ i. TellsContext (receives i stand.history) (context_in (held_at stand k)) (row_in (held_at stand k))) (sym same)
+      (by_number isolate (number_of stand k) (contexts_have_fates script stand run k isolate command at makes below) settled room (subst (λ i. is_gone i stand.history ≡ false) same here))
+
+-- ---- what a request asks for
+
+plain_leaf : (leaf : Leaf) → IsPrimitiveLeaf leaf → IsPlain leaf
+plain_leaf Undefined is = tt
+plain_leaf Null is = tt
+plain_leaf (Boolean b) is = tt
+plain_leaf (Num n) is = tt
+plain_leaf (Node n) is = absurd is
+
+plain_argument : (value : HostArgument) → IsArgument value → IsPrimitive (argument_of value)
+plain_argument (Literal copy) is = (is.0, plain_leaf copy.root is.1)
+
+-- what a task that is asked for names, was told by its isolate, unless that is gone
+abbrev AsksForKnown : List Event → Request → Type 0
+AsksForKnown history asks_nothing = Unit {0}
+AsksForKnown history (asks_task i budget kind) = is_gone i history ≡ false → (call : Option ℕ) → IsKnown (receives i history) (record { call = call; budget = budget; kind = kind })
+AsksForKnown history (asks_stop i) = Unit {0}
+
+free_label : (settled : Bool) → not settled ≡ false → settled ≡ true
+free_label true is = refl
+free_label false is = cc
+
+module _ (script : HostScript) (stand : Stand) (run : HostRun script stand) (served : AreServed stand.script stand.history) (room : nat_le most_calls (drawn stand) ≡ false) where
+  known_request : (wanted : What) → NamesEarlier stand.script (place stand) wanted → is_blocked stand wanted ≡ false → AsksForKnown stand.history (request stand wanted)
+  known_request what.Declare names free = tt
+  known_request (what.Context isolate) names free = λ here call. record { sound = record { kind = tt; some = grind arith; most = grind arith }; names = tt }
+  known_request (what.Eval context budget want text) names free = λ here call. record {
+    sound = record { kind = names.3; some = names.1; most = names.2 };
+    names = (row_in (held_at stand context), context_told script stand run served context names.0 (free_label (is_label_settled stand context) free) room here);
+  }
+  known_request (what.Get target key want) names free = λ here call. record {
+    sound = record { kind = names.1; some = grind arith; most = grind arith };
+    names = (context_in (held_at stand target), context_told script stand run served target names.0 (free_label (is_label_settled stand target) free) room here);
+  }
+  known_request (what.Set target key value) names free = λ here call. record {
+    sound = record { kind = plain_argument value names.1; some = grind arith; most = grind arith };
+    names = (context_in (held_at stand target), context_told script stand run served target names.0 (free_label (is_label_settled stand target) free) room here);
+  }
+  known_request (what.Dispose isolate) names free = tt
+  known_request (what.Wait target) names free = tt
+
+-- ---- what is posted
+
+known_if_posted : (script : HostScript) (stand : Stand) → IsWhole stand.script → HostRun script stand → AreServed stand.script stand.history
+    → (i budget : ℕ) (kind : TaskKind) → MayPost stand i budget kind → IsKnown (receives i stand.history) (task_of stand budget kind)
+known_if_posted script stand whole run served i budget kind may =
+    let asked = may.asked in
+    let known : AsksForKnown stand.history (request stand asked.command.what) =
+    known_request script stand run served asked.room asked.command.what (whole.in_place (place stand) asked.command asked.at).names asked.free in
+    (subst (AsksForKnown stand.history) asked.is known) may.here (Some (drawn stand))
+
+posts_known_at : (script : HostScript) (stand : Stand) → IsWhole stand.script → HostRun script stand → AreServed stand.script stand.history → PostsKnown stand
+posts_known_at script stand whole run served i task =
+    turn_cases stand (λ m. m.0 ≡ move.Post i task → IsKnown (receives i stand.history) task)
+    (λ e. let no : ⊥ = cc in absurd no)
+    (λ e. let no : ⊥ = cc in absurd no)
+    (λ e. let no : ⊥ = cc in absurd no)
+    (λ j budget kind may e.
+    let same : j ≡ i = cc in
+    let same_task : task_of stand budget kind ≡ task = cc in
+    subst (λ x. IsKnown (receives i stand.history) x) same_task (subst (λ x. IsKnown (receives x stand.history) (task_of stand budget kind)) same (known_if_posted script stand whole run served j budget kind may)))
+    (λ j _ e. let no : ⊥ = cc in absurd no)
+
+pub posts_known : (script : HostScript) (stand : Stand) → IsWhole script → HostRun script stand → AreServed script stand.history → PostsKnown stand
+posts_known script stand whole run served =
+    let same : script ≡ stand.script = sym (script_run script stand run) in
+    posts_known_at script stand (subst IsWhole same whole) run (subst (λ s. AreServed s stand.history) same served)

@@ -1,0 +1,4 @@
+pub mod Settled
+pub mod Known
+pub mod Courses
+pub mod Driving

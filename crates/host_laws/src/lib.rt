@@ -1,0 +1,19 @@
+//! What holds of every run of the host machine, and of every course of the host beside its isolates.
+//!
+//! Contracts see stands, scenes and records as `host_meaning` defines them.
+//! Rely on: the laws that stand on the functions of `laws` and `courses`; none does anything when it is called.
+//! Over `host_meaning`, `host_syntax`, `isolate_meaning` and `task_history`; under `host_machine` and `ivm_cli`.
+//! Begin with `src/laws.rt` and `src/courses.rt`, then the files of `specs`.
+#![tactic(auto)]
+
+mod courses;
+mod laws;
+
+pub use courses::{
+    cells_end_lawful, courses_end_lawful, isolates_stand_beside_the_host, one_thread_is_one_order,
+    waiting_tasks_fit,
+};
+pub use laws::{
+    calls_are_settled_or_posted, each_call_is_settled_once, numbers_are_posted_once,
+    posted_tasks_are_known, settlements_are_replied, the_host_waits_for_calls_alone,
+};

@@ -1,0 +1,5 @@
+pub mod Deeds
+pub mod Replays
+pub mod Replies
+pub mod Ends
+pub mod Told
