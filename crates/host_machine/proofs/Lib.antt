@@ -1,0 +1,4 @@
+pub mod TallyLemmas
+pub mod LedgerLemmas
+pub mod CallsLemmas
+pub mod NextLemmas
