@@ -1,2 +1,3 @@
 pub mod ActLemmas
-pub mod ReplayLemmas
+pub mod LifeLemmas
+pub mod CellLemmas

@@ -1,2 +1,4 @@
-pub mod Isolate
-pub mod Replay
+pub mod Only
+pub mod Written
+pub mod Life
+pub mod Cell

@@ -1,81 +1,99 @@
-//! A cell: an isolate's contexts and the journal that gives them again.
-ghost use Rattle.std.specs.Prelude.{◌≡◌, false, None, IfOk, IsErr, OnOk, OnErr};
-ghost use Rattle.isolate_core.specs.Replay.{fresh_cell, void, Kept, MayPerform, Performs, Replays};
+//! A cell: an isolate's state and the journal that gives it again.
 
-use crate::act::{Contexts, carry_out};
+ghost use Rattle.std.specs.Prelude.{◌≡◌, None, IfOk, IsErr, OnOk, OnErr};
+ghost use Rattle.isolate_meaning.specs.Replay.{fresh_cell, has_ended, stopped, void, IsKept, MayPerform, Performs};
+ghost use Rattle.isolate_core.specs.Only.{IsOnlyPerformance};
+
+use crate::ledger::Ledger;
+use crate::life::{Life, carry_out};
 use item_list::Items;
 use ivm_text::NoMemory;
 use std::alloc::Global;
 use std::marker::Model;
-use task_history::{Journal, Task};
+use std::mem;
+use task_history::{By, Entry, Journal, Task};
 
-/// One isolate with its journal (isolated-vm: `Isolate`). Without contexts the cell is void.
+/// One isolate with its journal (isolated-vm: `Isolate`). It is void, without a state, once a task was given up
+/// for want of memory.
 #[derive(Drop)]
 pub struct Cell {
     isolate: u32,
     limit: u32,
-    journal: Journal,
-    contexts: Option<Contexts>,
+    ledger: Ledger,
+    life: Life,
     alloc: Global,
 }
 
 impl Model for Cell {
-    ghost use Rattle.isolate_core.specs.Replay.{Kept, Replays};
+    ghost use Rattle.isolate_meaning.specs.Replay.{Kept};
+    ghost use Rattle.isolate_core.specs.Cell.{kept_in, IsWhole};
 
     ghost Value = { Kept };
 
-    ghost view = { λ c. record { number = c.isolate; limit = c.limit; journal = c.journal; contexts = c.contexts } };
+    ghost view = { λ c. kept_in c.isolate c.limit c.ledger c.life };
 
-    ghost invariant = { λ c. Replays (record { number = c.isolate; limit = c.limit; journal = c.journal; contexts = c.contexts }) };
+    ghost invariant = { λ c. IsWhole c.isolate c.limit c.ledger c.life };
 }
 
 impl Cell {
-    /// A fresh cell: live, without contexts, with an empty journal, and not void.
-    /// `limit` is in cells; none is charged until scripts have a heap. It is refused for want of memory alone.
+    /// A fresh cell: live, without contexts, with an empty journal, and not void. All that a stop needs is
+    /// reserved. `limit` is in cells; none is charged until scripts have a heap.
+    /// It is refused for want of memory alone.
     pub fn new(alloc: Global, isolate: u32, limit: u32) -> Result<Cell, NoMemory>
         ensures { IfOk result (λ cell. cell ≡ fresh_cell isolate limit) }
     {
         Ok(Cell {
             isolate,
             limit,
-            journal: Items::new(alloc),
-            contexts: Some(Items::new(alloc)),
+            ledger: Ledger::new(alloc)?,
+            life: Life::Live(Items::new(alloc)),
             alloc,
         })
     }
 
-    /// Performs one task and appends its one entry. After `NoMemory` the cell is void: its journal stays,
-    /// its contexts are gone, and each later task is refused so.
+    /// Performs one task and appends its one entry: on a live isolate what the task asks for, and on one that
+    /// has ended `Disposed` with the cause of its end. After `NoMemory` the cell is void: its journal stays,
+    /// its state is gone, and each later task is refused so.
     pub fn perform(&mut self, task: &Task) -> Result<(), NoMemory>
         requires { MayPerform self.old task.now }
 
         ensures ok { OnOk result (Performs task.now self.old self.new) }
+        ensures only { OnOk result (IsOnlyPerformance task.now self.old self.new) }
         ensures err { OnErr result (self.new ≡ void self.old) }
 
-        ensures void { self.old.contexts ≡ None → IsErr result }
+        ensures void { self.old.state ≡ None → IsErr result }
     {
-        let Some(mut contexts) = self.contexts.take() else {
-            return Err(NoMemory);
-        };
-        let entry = carry_out(self.alloc, &mut contexts, task)?;
-        self.journal.push(entry)?;
-        self.contexts = Some(contexts);
+        let life = mem::replace(&mut self.life, Life::Void);
+        let (life, entry) = carry_out(self.alloc, life, task)?;
+        self.ledger.push(entry)?;
+        self.life = life;
         Ok(())
     }
 
-    /// The entries so far. Carried out again they give the contexts.
-    pub fn journal(&self) -> &Journal
-        ensures value { result.now ≡ self.now.journal }
-        ensures replays { Replays self.now }
+    /// Stops a live isolate for the host (isolated-vm: `isolate.dispose`): it has ended, with one more entry. An
+    /// isolate that has ended, and a void cell, stay as they are. It takes no memory.
+    pub fn dispose(&mut self)
+        ensures { self.new ≡ stopped self.old }
     {
-        &self.journal
+        if let Life::Live(_) = &self.life {
+            self.ledger.close();
+            self.life = Life::Ended(By::Host);
+        }
     }
 
-    /// Whether the isolate has ended. Nothing ends one yet.
-    pub fn is_ended(&self) -> bool
-        ensures { result ≡ false }
+    /// The entries so far. Carried out again they give the state.
+    pub fn journal(&self) -> &[Entry]
+        ensures value { result.now ≡ self.now.journal }
+        ensures kept { IsKept self.now }
     {
-        false
+        self.ledger.entries()
+    }
+
+    /// Whether the isolate has ended. A void cell has no state that has.
+    pub fn is_ended(&self) -> bool
+        ensures { result ≡ has_ended self.now.state }
+    {
+        matches!(self.life, Life::Ended(_))
     }
 
     /// The cells that are charged: none until scripts have a heap.
@@ -88,9 +106,9 @@ impl Cell {
     /// The journal of a cell that is done with.
     pub fn into_journal(self) -> Journal
         ensures value { result ≡ self.journal }
-        ensures replays { Replays self }
+        ensures kept { IsKept self }
     {
-        let Cell { journal, .. } = self;
-        journal
+        let Cell { ledger, .. } = self;
+        ledger.into_journal()
     }
 }

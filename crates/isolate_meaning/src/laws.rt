@@ -5,7 +5,7 @@ ghost use Rattle.task_history.specs.Lists.{outs};
 ghost use Rattle.task_history.specs.declared.task.Task.{Task};
 ghost use Rattle.task_history.specs.declared.task.TaskKind.TheVariants.{Context};
 ghost use Rattle.task_history.specs.declared.record.Entry.{Entry};
-ghost use Rattle.isolate_meaning.specs.State.{Isolate, fresh};
+ghost use Rattle.isolate_meaning.specs.State.{Isolate, fresh, IsClosed};
 ghost use Rattle.isolate_meaning.specs.Does.{Does};
 ghost use Rattle.isolate_meaning.specs.Replay.{Replay};
 ghost use Rattle.isolate_meaning.specs.Laws.{AnswersEachOnce, EndsByDisposal, IsContextReply, IsRefusedWhereEnded, IsStopped, KnownFits, TellsWhatIsThere};
@@ -43,4 +43,9 @@ pub fn told_contexts_are_there()
 /// A sound task that names nothing but what its isolate has told fits the isolate.
 pub fn known_tasks_fit()
     ensures { (first last : Isolate) (journal : List Entry) → Replay first journal last → KnownFits journal last.state }
+{}
+
+/// Each value in an isolate that a journal gives again names what is there.
+pub fn states_are_closed()
+    ensures { (i limit : ℕ) (journal : List Entry) (last : Isolate) → Replay (fresh i limit) journal last → IsClosed last.state }
 {}

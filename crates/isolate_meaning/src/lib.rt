@@ -10,5 +10,5 @@ mod laws;
 
 pub use laws::{
     disposals_end, each_task_is_answered_once, ended_isolates_refuse, known_tasks_fit,
-    new_contexts_are_numbered, the_host_alone_ends, told_contexts_are_there,
+    new_contexts_are_numbered, states_are_closed, the_host_alone_ends, told_contexts_are_there,
 };

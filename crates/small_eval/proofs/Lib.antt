@@ -1,4 +1,5 @@
 pub mod NameLemmas
+pub mod PropertyLemmas
 pub mod BuiltLemmas
 pub mod RunLemmas
 pub mod EvaluationLemmas

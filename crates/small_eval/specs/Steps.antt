@@ -1,49 +1,22 @@
 -- What the steps of a program come to. No caller needs this: `specs/Meaning.antt` of `small_syntax` says the same of a text.
 -- This project's own; docs/SCRIPTS.md, "Small texts".
-use Rattle.std.specs.Prelude.{◌≡◌, ℕ, List, [], ◌∷◌, ◌++◌, map, Bool, true, not, ◌&&◌, if◌then◌else◌, Option, None, Some, ℤ, pos}
-use Rattle.std.specs.List.{list_any}
-use Rattle.std.specs.Option.{option_map, option_and_then, option_map_or}
-use Rattle.std.specs.Str.{bytes_eq}
-use Rattle.small_syntax.specs.Meaning.{Names, is_declared, number_of, with_number, may_be_read, is_in_range, applied}
+use Rattle.std.specs.Prelude.{◌≡◌, ℕ, List, [], ◌∷◌, ◌++◌, map, Bool, true, false, not, ◌&&◌, if◌then◌else◌, Option, None, Some, Result, Ok, Err, ℤ, pos}
+use Rattle.ivm_text.specs.declared.copies.Leaf.{Leaf}
+use Rattle.ivm_text.specs.declared.copies.Leaf.TheVariants.{Undefined, Num}
+use Rattle.small_syntax.specs.Meaning.{Names, Properties, ◌>>=◌, is_declared, with_value, read, value_read, may_be_read, is_in_range, result_of, applied, unless_thrown, evaluation_of}
 use Rattle.small_syntax.specs.declared.evaluation.Evaluation.{Evaluation}
-use Rattle.small_syntax.specs.declared.evaluation.Evaluation.TheVariants as outcome
+use Rattle.small_syntax.specs.declared.evaluation.Evaluation.TheVariants.{Value, Throw, NotBuilt}
+use Rattle.small_syntax.specs.declared.evaluation.Thrown.{Thrown}
+use Rattle.small_syntax.specs.declared.evaluation.Thrown.TheVariants.{OutOfRange, WrongKind}
+use Rattle.small_syntax.specs.declared.token.Operator.{Operator}
 use Rattle.small_syntax.specs.declared.program.Step.{Step}
 use Rattle.small_syntax.specs.declared.program.Step.TheVariants.{Number, Name, Apply}
 use Rattle.small_syntax.specs.declared.program.Let.{Let}
 use Rattle.small_syntax.specs.declared.program.Program.{Program}
 
--- ---- programs that are built
-
--- the name that the step reads, if it reads one, may be read
-abbrev pub reads_name_well : Names → List (List ℕ) → Step → Bool
-reads_name_well names earlier (Number n) = true
-reads_name_well names earlier (Name word) = may_be_read names earlier word
-reads_name_well names earlier (Apply op) = true
-
--- each name that the steps read may be read
-abbrev pub steps_read_well : Names → List (List ℕ) → List Step → Bool
-steps_read_well names earlier [] = true
-steps_read_well names earlier (step ∷ steps) = reads_name_well names earlier step && steps_read_well names earlier steps
-
--- each name that the steps at the end, if there are any, read may be read
-abbrev pub steps_end_well : Names → List (List ℕ) → Option (List Step) → Bool
-steps_end_well names earlier None = true
-steps_end_well names earlier (Some steps) = steps_read_well names earlier steps
-
--- the line declares a new name, and each name that it reads may be read
-abbrev pub is_line_built : Names → List (List ℕ) → Let → Bool
-is_line_built names earlier line =
-    not (is_declared line.name names) && not (list_any (bytes_eq line.name) earlier) && steps_read_well names earlier line.value
-
--- after these earlier words: each line is built, and so is the end
-abbrev pub are_lines_built : Names → List (List ℕ) → List Let → Option (List Step) → Bool
-are_lines_built names earlier [] last = steps_end_well names earlier last
-are_lines_built names earlier (line ∷ lines) last =
-    is_line_built names earlier line && are_lines_built names (earlier ++ line.name ∷ []) lines last
-
 -- ---- declarations
 
--- the lines' words, without numbers
+-- the lines' words, without values
 abbrev pub entries_of : List Let → Names
 entries_of lines = map (λ line. (line.name, None)) lines
 
@@ -62,54 +35,94 @@ pub record BeginsWith (front names : Names) : Type 0 where
   pub rest : Names
   pub whole : names ≡ front ++ rest
 
+-- ---- names that may be read, once all words of the program have entered
+
+-- the name that the step reads, if it reads one, may be read
+abbrev pub reads_name_well : Names → Properties → List (List ℕ) → Step → Bool
+reads_name_well names global earlier (Number n) = true
+reads_name_well names global earlier (Name word) = may_be_read names global earlier word
+reads_name_well names global earlier (Apply op) = true
+
+-- each name that the steps read may be read
+abbrev pub steps_read_well : Names → Properties → List (List ℕ) → List Step → Bool
+steps_read_well names global earlier [] = true
+steps_read_well names global earlier (step ∷ steps) = reads_name_well names global earlier step && steps_read_well names global earlier steps
+
+-- each name that the steps at the end, if there are any, read may be read
+abbrev pub steps_end_well : Names → Properties → List (List ℕ) → Option (List Step) → Bool
+steps_end_well names global earlier None = true
+steps_end_well names global earlier (Some steps) = steps_read_well names global earlier steps
+
+-- after these earlier words: each name that the lines and the end read may be read
+abbrev pub lines_read_well : Names → Properties → List (List ℕ) → List Let → Option (List Step) → Bool
+lines_read_well names global earlier [] last = steps_end_well names global earlier last
+lines_read_well names global earlier (line ∷ lines) last =
+    steps_read_well names global earlier line.value && lines_read_well names global (earlier ++ line.name ∷ []) lines last
+
 -- ---- values
 
--- the number, or none where it is out of range
-abbrev pub in_range : ℤ → Option ℤ
-in_range n = if is_in_range n then Some n else None
+-- the number, where it is in range
+abbrev pub in_range : ℤ → Result Leaf Thrown
+in_range n = if is_in_range n then Ok (Num n) else Err OutOfRange
 
--- with the number on top of the stack
-abbrev pub put : List ℤ → Option ℤ → Option (List ℤ)
-put stack number = option_map (λ n. n ∷ stack) number
+-- the result of an operator on two numbers, where it is in range
+abbrev pub applied_to : Operator → ℤ → ℤ → Result Leaf Thrown
+applied_to op a b = in_range (result_of op a b)
 
--- the stack after a step, its top first; none where a result is out of range
-abbrev pub after_step : Names → Step → List ℤ → Option (List ℤ)
-after_step names (Number n) stack = put stack (in_range (pos n))
-after_step names (Name word) stack = put stack (number_of word names)
-after_step names (Apply op) [] = None
-after_step names (Apply op) (right ∷ []) = None
-after_step names (Apply op) (right ∷ left ∷ stack) = put stack (applied op left right)
+-- with the value on top of the stack
+abbrev pub put : List Leaf → Result Leaf Thrown → Result (List Leaf) Thrown
+put stack value = value >>= λ v. Ok (v ∷ stack)
+
+-- the stack after a step, its top first, or what is thrown; the steps of a text always find their operands
+abbrev pub after_step : Names → Properties → Step → List Leaf → Result (List Leaf) Thrown
+after_step names global (Number n) stack = put stack (in_range (pos n))
+after_step names global (Name word) stack = put stack (Ok (value_read (read names global word)))
+after_step names global (Apply op) [] = Err WrongKind
+after_step names global (Apply op) (right ∷ []) = Err WrongKind
+after_step names global (Apply op) (right ∷ left ∷ stack) = put stack (applied op left right)
 
 -- the stack after the steps one by one
-abbrev pub after_steps : Names → List Step → List ℤ → Option (List ℤ)
-after_steps names [] stack = Some stack
-after_steps names (step ∷ steps) stack = option_and_then (after_steps names steps) (after_step names step stack)
+abbrev pub after_steps : Names → Properties → List Step → List Leaf → Result (List Leaf) Thrown
+after_steps names global [] stack = Ok stack
+after_steps names global (step ∷ steps) stack = after_step names global step stack >>= after_steps names global steps
 
--- the number on top, if there is one
-abbrev pub top_of : List ℤ → Option ℤ
-top_of [] = None
-top_of (n ∷ stack) = Some n
+-- the value on top; the steps of a text leave one
+abbrev pub top_of : List Leaf → Result Leaf Thrown
+top_of [] = Ok Undefined
+top_of (value ∷ stack) = Ok value
 
 -- what the steps leave on an empty stack
-abbrev pub value_of_steps : Names → List Step → Option ℤ
-value_of_steps names steps = option_and_then top_of (after_steps names steps [])
+abbrev pub value_of_steps : Names → Properties → List Step → Result Leaf Thrown
+value_of_steps names global steps = after_steps names global steps [] >>= top_of
 
 -- what the end of a program gives
-abbrev pub ending_of_steps : Names → Option (List Step) → Evaluation
-ending_of_steps names None = outcome.Undefined
-ending_of_steps names (Some steps) = option_map_or (λ n. outcome.Number n) (value_of_steps names steps) outcome.OutOfRange
+abbrev pub ending_of_steps : Names → Properties → Option (List Step) → Evaluation
+ending_of_steps names global None = Value Undefined
+ending_of_steps names global (Some steps) = evaluation_of (value_of_steps names global steps)
 
--- the lines one by one and then the end; where a result is out of range, the words not yet reached stay without numbers
-abbrev pub run_lines : Names → List Let → Option (List Step) → Names × Evaluation
-run_lines names [] last = (names, ending_of_steps names last)
-run_lines names (line ∷ lines) last =
-    option_map_or (λ n. run_lines (with_number line.name n names) lines last) (value_of_steps names line.value) (names, outcome.OutOfRange)
+-- the lines one by one and then the end; after a throw the words not yet reached stay without values
+abbrev pub run_lines : Names → Properties → List Let → Option (List Step) → Names × Evaluation
+run_lines names global [] last = (names, ending_of_steps names global last)
+run_lines names global (line ∷ lines) last =
+    unless_thrown (λ value. run_lines (with_value line.name value names) global lines last) (λ thrown. (names, Throw thrown)) (value_of_steps names global line.value)
 
 -- ---- programs
 
+-- each word of the program is new, and once all have entered each name that is read may be read
+abbrev pub is_program_built : Names → Properties → Program → Bool
+is_program_built names global program =
+    are_new names program.lets && lines_read_well (names ++ entries_of program.lets) global [] program.lets program.last
+
 -- where the program is built, its words enter and its lines run
-abbrev pub evaluated : Names → Program → Names × Evaluation
-evaluated names program =
-    if are_lines_built names [] program.lets program.last
-    then run_lines (names ++ entries_of program.lets) program.lets program.last
-    else (names, outcome.NotBuilt)
+abbrev pub evaluated : Names → Properties → Program → Names × Evaluation
+evaluated names global program =
+    if is_program_built names global program
+    then run_lines (names ++ entries_of program.lets) global program.lets program.last
+    else (names, NotBuilt)
+
+-- the words enter and the lines run where the program is built, and else there is no evaluation
+abbrev pub Enters : Names → Properties → Program → Option Evaluation → Names → Type 0
+Enters names global program None after = is_program_built names global program ≡ false
+Enters names global program (Some evaluation) after =
+    (is_program_built names global program ≡ true)
+    × (run_lines (names ++ entries_of program.lets) global program.lets program.last ≡ (after, evaluation))

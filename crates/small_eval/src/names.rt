@@ -1,26 +1,28 @@
 //! The names of a context.
 
 ghost use Rattle.std.specs.Prelude.{◌≡◌, [], ◌∷◌, ◌++◌, length, take, None, false, OnOk, OnErr};
-ghost use Rattle.small_syntax.specs.Meaning.{is_declared, number_of, with_number};
+ghost use Rattle.small_syntax.specs.Meaning.{is_declared, value_in, with_value, read};
 ghost use Rattle.small_eval.specs.Words.{HasDistinctWords};
 
+use crate::Properties;
 use indexmap::IndexMap;
-use ivm_text::{NoMemory, Units};
+use ivm_text::{Leaf, NoMemory, Units};
 use std::alloc::Global;
 use std::marker::Model;
 
-/// The names of a context in the order in which they were declared, each with a number or without one yet.
+/// The names of a context in the order in which they were declared, each with a value or without one yet.
 /// No name stands twice. A look-up takes constant time, however many names there are.
 #[derive(Drop)]
 pub struct Names {
-    map: IndexMap<Units, Option<i64>>,
+    map: IndexMap<Units, Option<Leaf>>,
 }
 
 impl Model for Names {
-    ghost use Rattle.std.specs.Prelude.{List, ℕ, ℤ, Option};
+    ghost use Rattle.std.specs.Prelude.{List, ℕ, Option};
+    ghost use Rattle.ivm_text.specs.declared.copies.Leaf.{Leaf};
     ghost use Rattle.small_eval.specs.Words.{HasDistinctWords};
 
-    ghost Value = { List (List ℕ × Option ℤ) };
+    ghost Value = { List (List ℕ × Option Leaf) };
 
     ghost view = { λ n. n.map.entries };
 
@@ -45,18 +47,30 @@ impl Names {
         self.map.len()
     }
 
-    /// The number of a name. `None` where it has none yet, or isn't declared.
-    #[tactic(auto, using(crate::proofs::NameLemmas::number_of_lookup))]
-    pub fn number_of(&self, word: &Units) -> Option<i64>
-        ensures { result ≡ number_of word.now self.now }
+    /// The value of a name. `None` where it has none yet, or isn't declared.
+    #[tactic(auto, using(crate::proofs::NameLemmas::value_in_lookup))]
+    pub fn value_of(&self, word: &Units) -> Option<Leaf>
+        ensures { result ≡ value_in word.now self.now }
     {
         match self.map.get(word) {
-            Some(number) => *number,
+            Some(value) => *value,
             None => None,
         }
     }
 
-    /// Whether a name is declared, with a number or without one.
+    /// What a name reads as: its value where it is declared, if it has one yet, and else that of the property of
+    /// the global object, if it is there.
+    #[tactic(auto, using(crate::proofs::NameLemmas::read_lookup))]
+    pub fn read(&self, global: &Properties, word: &Units) -> Option<Leaf>
+        ensures { result ≡ read self.now global.now word.now }
+    {
+        match self.map.get(word) {
+            Some(value) => *value,
+            None => global.get(word),
+        }
+    }
+
+    /// Whether a name is declared, with a value or without one.
     #[tactic(auto, using(crate::proofs::NameLemmas::is_declared_lookup))]
     pub fn is_declared(&self, word: &Units) -> bool
         ensures { result ≡ is_declared word.now self.now }
@@ -64,7 +78,7 @@ impl Names {
         self.map.contains_key(word)
     }
 
-    /// Enters a new name, without a number. Without memory nothing has changed.
+    /// Enters a new name, without a value. Without memory nothing has changed.
     #[tactic(auto, using(crate::proofs::NameLemmas::insert_entry_new))]
     pub fn declare(&mut self, word: Units) -> Result<(), NoMemory>
         requires { is_declared word self.old ≡ false }
@@ -76,15 +90,15 @@ impl Names {
         Ok(())
     }
 
-    /// Gives a name this number, whether it has one or not. Where the name isn't declared, nothing changes.
-    #[tactic(auto, using(crate::proofs::NameLemmas::with_number_set, crate::proofs::NameLemmas::with_number_absent))]
-    pub fn set_number(&mut self, word: &Units, number: i64)
-        ensures { self.new ≡ with_number word.now number self.old }
+    /// Gives a name this value, whether it has one or not. Where the name isn't declared, nothing changes.
+    #[tactic(auto, using(crate::proofs::NameLemmas::with_value_set, crate::proofs::NameLemmas::with_value_absent))]
+    pub fn set_value(&mut self, word: &Units, value: Leaf)
+        ensures { self.new ≡ with_value word.now value self.old }
     {
         let Some(place) = self.map.get_mut(word) else {
             return;
         };
-        *place = Some(number);
+        *place = Some(value);
     }
 
     /// Forgets the names after the first `len`.

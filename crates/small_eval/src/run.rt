@@ -1,126 +1,160 @@
-//! Running a program over the names.
+//! Running a program over the names and the global object.
 
 ghost use Rattle.std.specs.Prelude.{◌≡◌, ◌++◌, [], true, IfOk, OnOk, OnErr};
-ghost use Rattle.std.specs.Option.{option_map};
-ghost use Rattle.small_syntax.specs.Meaning.{Names};
-ghost use Rattle.small_eval.specs.Steps.{put, after_step, value_of_steps, ending_of_steps, run_lines, entries_of, are_new, are_unknown, BeginsWith, are_lines_built, evaluated};
+ghost use Rattle.small_syntax.specs.Meaning.{Names as Record};
+ghost use Rattle.small_eval.specs.Steps.{put, after_step, value_of_steps, ending_of_steps, run_lines, entries_of, are_new, are_unknown, BeginsWith, Enters, evaluated};
 
-use crate::Names;
 use crate::arithmetic::{applied, written};
-use crate::built::is_built;
+use crate::built::reads_well;
 use crate::stack::Stack;
+use crate::{Names, Properties};
 use item_list::CloneWhole;
-use ivm_text::NoMemory;
-use small_syntax::{Evaluation, Let, Program, Step, Steps};
+use ivm_text::{Leaf, NoMemory};
+use small_syntax::{Evaluation, Let, Program, Step, Steps, Thrown};
 use std::alloc::Global;
 
-/// The number that a step puts on the stack, once its operands are taken off.
-fn number_of_step(names: &Names, stack: &mut Stack, step: &Step) -> Option<i64>
-    ensures { put stack.new result ≡ after_step names.now step.now stack.old }
+/// The value that a step puts on the stack, once its operands are taken off.
+fn value_of_step(
+    names: &Names,
+    global: &Properties,
+    stack: &mut Stack,
+    step: &Step,
+) -> Result<Leaf, Thrown>
+    ensures { put stack.new result ≡ after_step names.now global.now step.now stack.old }
 {
     match step {
         Step::Number(number) => written(*number),
-        Step::Name(word) => names.number_of(word),
+        Step::Name(word) => Ok(names.read(global, word).unwrap_or(Leaf::Undefined)),
         Step::Apply(operator) => {
-            let right = stack.pop()?;
-            let left = stack.pop()?;
+            let Some(right) = stack.pop() else {
+                return Err(Thrown::WrongKind);
+            };
+            let Some(left) = stack.pop() else {
+                return Err(Thrown::WrongKind);
+            };
             applied(*operator, left, right)
         }
     }
 }
 
-/// The value of an expression, or none where a result is out of range.
-fn value_of(alloc: Global, names: &Names, steps: &[Step]) -> Result<Option<i64>, NoMemory>
-    ensures { IfOk result (λ value. value ≡ value_of_steps names.now steps.now) }
+/// The value of an expression, or what it throws.
+fn value_of(
+    alloc: Global,
+    names: &Names,
+    global: &Properties,
+    steps: &[Step],
+) -> Result<Result<Leaf, Thrown>, NoMemory>
+    ensures { IfOk result (λ value. value ≡ value_of_steps names.now global.now steps.now) }
 {
     let mut stack = Stack::new(alloc);
     let mut left = steps;
     while let [step, rest @ ..] = left {
-        match number_of_step(names, &mut stack, step) {
-            Some(number) => stack.push(number)?,
-            None => return Ok(None),
+        match value_of_step(names, global, &mut stack, step) {
+            Ok(value) => stack.push(value)?,
+            Err(thrown) => return Ok(Err(thrown)),
         }
         left = rest;
     }
-    Ok(stack.pop())
+    Ok(Ok(stack.pop().unwrap_or(Leaf::Undefined)))
 }
 
 /// What the end of a program gives.
-fn ending_of(alloc: Global, names: &Names, last: &Option<Steps>) -> Result<Evaluation, NoMemory>
-    ensures { IfOk result (λ ending. ending ≡ ending_of_steps names.now last.now) }
+fn ending_of(
+    alloc: Global,
+    names: &Names,
+    global: &Properties,
+    last: &Option<Steps>,
+) -> Result<Evaluation, NoMemory>
+    ensures { IfOk result (λ ending. ending ≡ ending_of_steps names.now global.now last.now) }
 {
     match last {
-        None => Ok(Evaluation::Undefined),
-        Some(steps) => match value_of(alloc, names, steps.as_slice())? {
-            Some(number) => Ok(Evaluation::Number(number)),
-            None => Ok(Evaluation::OutOfRange),
+        None => Ok(Evaluation::Value(Leaf::Undefined)),
+        Some(steps) => match value_of(alloc, names, global, steps.as_slice())? {
+            Ok(value) => Ok(Evaluation::Value(value)),
+            Err(thrown) => Ok(Evaluation::Throw(thrown)),
         },
     }
 }
 
-/// Enters the words of the lines, which are new, without numbers.
+/// Enters the words of the lines, without values, as long as they are new.
 #[tactic(auto, using(crate::proofs::NameLemmas::begins_with_itself, crate::proofs::NameLemmas::begins_with_more))]
-fn declare_all(alloc: Global, names: &mut Names, lines: &[Let]) -> Result<(), NoMemory>
-    requires { are_new names.old lines.now ≡ true }
-    ensures ok { OnOk result (names.new ≡ names.old ++ entries_of lines.now) }
+fn declare_all(alloc: Global, names: &mut Names, lines: &[Let]) -> Result<bool, NoMemory>
+    ensures new { IfOk result (λ new. new ≡ are_new names.old lines.now) }
+    ensures entered { IfOk result (λ new. new ≡ true → names.new ≡ names.old ++ entries_of lines.now) }
     ensures kept { BeginsWith names.old names.new }
 {
     let mut left = lines;
     while let [line, rest @ ..] = left {
+        if names.is_declared(&line.name) {
+            return Ok(false);
+        }
         names.declare(line.name.clone_whole(alloc)?)?;
         left = rest;
     }
-    Ok(())
+    Ok(true)
 }
 
 /// Runs the lines one by one, and then the end.
 fn run_lines(
     alloc: Global,
     names: &mut Names,
+    global: &Properties,
     lines: &[Let],
     last: &Option<Steps>,
 ) -> Result<Evaluation, NoMemory>
-    ensures ok { IfOk result (λ evaluation. run_lines names.old lines.now last.now ≡ (names.new, evaluation)) }
-    ensures kept { (front : Names) → BeginsWith front names.old → are_unknown front lines.now ≡ true → BeginsWith front names.new }
+    ensures ok { IfOk result (λ evaluation. run_lines names.old global.now lines.now last.now ≡ (names.new, evaluation)) }
+    ensures kept { (front : Record) → BeginsWith front names.old → are_unknown front lines.now ≡ true → BeginsWith front names.new }
 {
     let mut left = lines;
     while let [line, rest @ ..] = left {
-        match value_of(alloc, names, line.value.as_slice())? {
-            Some(number) => names.set_number(&line.name, number),
-            None => return Ok(Evaluation::OutOfRange),
+        match value_of(alloc, names, global, line.value.as_slice())? {
+            Ok(value) => names.set_value(&line.name, value),
+            Err(thrown) => return Ok(Evaluation::Throw(thrown)),
         }
         left = rest;
     }
-    ending_of(alloc, names, last)
+    ending_of(alloc, names, global, last)
 }
 
-/// Enters the words of a program that is built, and runs its lines.
-#[tactic(auto, using(crate::proofs::BuiltLemmas::new_where_built, crate::proofs::BuiltLemmas::unknown_where_built))]
-fn run_built(alloc: Global, names: &mut Names, program: &Program) -> Result<Evaluation, NoMemory>
-    requires { are_lines_built names.old [] program.now.lets program.now.last ≡ true }
-
-    ensures ok { IfOk result (λ evaluation. evaluated names.old program.now ≡ (names.new, evaluation)) }
+/// Enters the words of a program and runs its lines, where it is built. Where it isn't, or without memory, some
+/// words may have entered.
+#[tactic(auto, using(crate::proofs::BuiltLemmas::unknown_where_new))]
+fn enter_and_run(
+    alloc: Global,
+    names: &mut Names,
+    global: &Properties,
+    program: &Program,
+) -> Result<Option<Evaluation>, NoMemory>
+    ensures ok { IfOk result (λ ran. Enters names.old global.now program.now ran names.new) }
     ensures kept { BeginsWith names.old names.new }
 {
-    declare_all(alloc, names, program.lets.as_slice())?;
-    run_lines(alloc, names, program.lets.as_slice(), &program.last)
+    if !declare_all(alloc, names, program.lets.as_slice())? {
+        return Ok(None);
+    }
+    if !reads_well(alloc, names, global, program)? {
+        return Ok(None);
+    }
+    let evaluation = run_lines(alloc, names, global, program.lets.as_slice(), &program.last)?;
+    Ok(Some(evaluation))
 }
 
 /// Where the program is built, enters its words and runs its lines. Without memory nothing has changed.
 pub(crate) fn run(
     alloc: Global,
     names: &mut Names,
+    global: &Properties,
     program: &Program,
 ) -> Result<Evaluation, NoMemory>
-    ensures ok { IfOk result (λ evaluation. evaluated names.old program.now ≡ (names.new, evaluation)) }
+    ensures ok { IfOk result (λ evaluation. evaluated names.old global.now program.now ≡ (names.new, evaluation)) }
     ensures err { OnErr result (names.new ≡ names.old) }
 {
-    if !is_built(alloc, names, program)? {
-        return Ok(Evaluation::NotBuilt);
-    }
     let known = names.len();
-    match run_built(alloc, names, program) {
-        Ok(evaluation) => Ok(evaluation),
+    match enter_and_run(alloc, names, global, program) {
+        Ok(Some(evaluation)) => Ok(evaluation),
+        Ok(None) => {
+            names.truncate(known);
+            Ok(Evaluation::NotBuilt)
+        }
         Err(error) => {
             names.truncate(known);
             Err(error)

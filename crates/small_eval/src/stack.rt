@@ -1,22 +1,24 @@
-//! A stack of numbers.
+//! A stack of values.
 
 ghost use Rattle.std.specs.Prelude.{◌≡◌, [], ◌∷◌, OnOk, MatchOption};
 
+use ivm_text::Leaf;
 use std::alloc::{AllocError, Global};
 use std::marker::Model;
 
-/// Numbers, seen as the list of them with the top first.
+/// Values, seen as the list of them with the top first.
 #[derive(Drop)]
 pub(crate) struct Stack {
-    numbers: Vec<i64>,
+    values: Vec<Leaf>,
 }
 
 impl Model for Stack {
-    ghost use Rattle.std.specs.Prelude.{List, ℤ, reverse};
+    ghost use Rattle.std.specs.Prelude.{List, reverse};
+    ghost use Rattle.ivm_text.specs.declared.copies.Leaf.{Leaf};
 
-    ghost Value = { List ℤ };
+    ghost Value = { List Leaf };
 
-    ghost view = { λ s. reverse s.numbers.items };
+    ghost view = { λ s. reverse s.values.items };
 }
 
 impl Stack {
@@ -24,20 +26,20 @@ impl Stack {
         ensures { result ≡ [] }
     {
         Stack {
-            numbers: Vec::new(alloc),
+            values: Vec::new(alloc),
         }
     }
 
-    pub(crate) fn push(&mut self, number: i64) -> Result<(), AllocError>
-        ensures { OnOk result (self.new ≡ number ∷ self.old) }
+    pub(crate) fn push(&mut self, value: Leaf) -> Result<(), AllocError>
+        ensures { OnOk result (self.new ≡ value ∷ self.old) }
     {
-        self.numbers.push(number)?;
+        self.values.push(value)?;
         Ok(())
     }
 
-    pub(crate) fn pop(&mut self) -> Option<i64>
+    pub(crate) fn pop(&mut self) -> Option<Leaf>
         ensures { MatchOption result ((self.old ≡ []) × (self.new ≡ [])) (λ top. self.old ≡ top ∷ self.new) }
     {
-        self.numbers.pop()
+        self.values.pop()
     }
 }

@@ -1,21 +1,13 @@
-use Rattle.std.proofs.Common.{[], ◌∙◌, ap, slice_set}
-use Rattle.std.proofs.lemmas.List.{set-set}
-use Rattle.std.proofs.lemmas.Option.{get_or_from_slice_get}
-use Rattle.isolate_core.proofs.ActLemmas.{only_evaluation}
+use Rattle.std.proofs.Common.{Some, ap, sym, ◌∙◌}
+use Rattle.isolate_core.proofs.ActLemmas.{evaluated_in, only_evaluated_in}
 use Rattle.isolate_core.proofs.act.evaluate_in.Goals as goal
 
 pub returns-clause-evaluates : goal.returns-clause-evaluates
-returns-clause-evaluates c = record {
-  evaluation = c.in_ok-evaluation.evaluation;
-  names = c.evaluate.new.names;
-  evaluated = rw (get_or_from_slice_get c.args.contexts.now c.args.context c.replace-names.result [] c.replace-names.ensures.value) c.in_ok-evaluation.ensures.ok;
-  kept = c.set.ensures ∙ ap (λ l. slice_set l c.args.context c.evaluate.new.names) c.replace-names.ensures.items ∙ set-set c.args.contexts.now c.args.context c.new.result c.evaluate.new.names;
-  told = c.in_ok-outcome.ensures;
-}
+returns-clause-evaluates c =
+    evaluated_in c.args.number c.args.text.now c.args.contexts.now c.replace.new.self c.set.new.self c.new.result _ c.in_ok-evaluation.evaluation c.evaluate.new.names c.in_ok-outcome.outcome
+    (c.replace.ensures.value ∙ ap Some (sym c.names.view_is)) c.replace.ensures.items c.set.ensures c.in_ok-evaluation.ensures.ok c.in_ok-outcome.ensures
 
 pub returns-clause-only : goal.returns-clause-only
 returns-clause-only c =
-    only_evaluation c.args.context c.args.text.now c.args.contexts.now c.set.new.self c.replace-names.result c.in_ok-evaluation.evaluation c.evaluate.new.names _
-    (get_or_from_slice_get c.args.contexts.now c.args.context c.replace-names.result [] c.replace-names.ensures.value)
-    (c.set.ensures ∙ ap (λ l. slice_set l c.args.context c.evaluate.new.names) c.replace-names.ensures.items ∙ set-set c.args.contexts.now c.args.context c.new.result c.evaluate.new.names)
-    c.in_ok-outcome.ensures c.in_ok-evaluation.ensures.only
+    only_evaluated_in c.args.number c.args.text.now c.args.contexts.now c.replace.new.self c.set.new.self c.new.result _ c.in_ok-evaluation.evaluation c.evaluate.new.names c.in_ok-outcome.outcome
+    (c.replace.ensures.value ∙ ap Some (sym c.names.view_is)) c.replace.ensures.items c.set.ensures c.in_ok-evaluation.ensures.only c.in_ok-outcome.ensures

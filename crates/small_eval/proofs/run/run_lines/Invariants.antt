@@ -5,7 +5,7 @@ use Rattle.small_eval.proofs.run.run_lines.Given as goal
 
 abbrev pub invariant-loop-left : goal.invariant-loop-left
 invariant-loop-left l = record {
-  ran : run_lines l.fn.names l.fn.lines l.last ≡ run_lines l.names l.left l.last;
+  ran : run_lines l.fn.names l.global l.fn.lines l.last ≡ run_lines l.names l.global l.left l.last;
   kept : (front : Names) → BeginsWith front l.fn.names → are_unknown front l.fn.lines ≡ true → BeginsWith front l.names × (are_unknown front l.left ≡ true);
 }
 
