@@ -8,6 +8,7 @@ use Rattle.task_history.specs.declared.task.Task.{Task}
 use Rattle.task_history.specs.declared.outcome.By.TheVariants.{Host}
 use Rattle.task_history.specs.declared.outcome.Out.{Out}
 use Rattle.task_history.specs.declared.record.Entry.{Entry}
+use Rattle.task_history.specs.declared.record.Event.{Event}
 use Rattle.task_history.specs.declared.outcome.By.{By}
 use Rattle.isolate_meaning.specs.State.{Context, State, live, ended, is_ended}
 use Rattle.isolate_meaning.specs.Fits.{Fits}
@@ -28,7 +29,7 @@ use Rattle.host_meaning.specs.OneThread.OneCommand.{own, posts, stops, asks_ende
 use Rattle.host_meaning.specs.OneThread.OneThread.{opens, goes}
 use Rattle.host_meaning.specs.Lawful.{IsLawful}
 use Rattle.host_laws.specs.Driving.{fresh_cells, state_or_end, worker_of, scene_of, IsThere, CellsAre, outs_of, outs_at, AreReplies, record_with}
-use Rattle.host_laws.proofs.Turns.{turn_goes, script_run, script_received_all, numbers_received_all}
+use Rattle.host_laws.proofs.Turns.{turn_goes, script_turn, script_run, script_received_all, numbers_received_all}
 use Rattle.host_laws.proofs.Lists.{none_there, slice_get-append_here}
 use Rattle.host_laws.proofs.Targets.{post_within, ask_within, turn_blocked}
 use Rattle.host_laws.proofs.Workers.{scene_with, get_set}
@@ -135,6 +136,12 @@ module _ (script : HostScript) (stand : Stand) (cells : List Kept) (whole : IsWh
   pub ask_index : (next : Stand) (m : Move) (i : ℕ) → (m, next) ≡ turn stand → m ≡ Ask i → i < length cells
   ask_index next m i is asks =
       subst (λ n. i < n) (sym count_cells) (ask_within script stand i whole script_of_cells (sym (ap (λ x. x.0) is) ∙ asks))
+
+  -- the host's script is the same after a move, and has the isolates of these cells
+  pub within_next : (next : Stand) (m : Move) (i : ℕ) → (m, next) ≡ turn stand → i < length cells → i < length next.script.isolates
+  within_next next m i is l =
+      let same : next.script ≡ script = ap (λ x. x.1.script) is ∙ script_turn stand ∙ script_of_cells in
+      subst (λ (s : HostScript). i < length s.isolates) (sym same) (subst (λ n. i < n) count_cells l)
 
   -- the cell that a task is posted to may carry it out
   pub post_fits : (next : Stand) (m : Move) (i : ℕ) (task : Task) (cell : Kept) → (m, next) ≡ turn stand → m ≡ Post i task → slice_get cells i ≡ Some cell → MayPerform cell task
@@ -275,6 +282,13 @@ module _ (script : HostScript) (stand : Stand) (cells : List Kept) (are : CellsA
       course_is_lawful script (scene_of stand cells) whole (one_thread_course script (scene_of stand cells) are.run) (one_thread_rests script (scene_of stand cells) are.run none) in
       let journals : (record_of (scene_of stand cells)).isolates ≡ map (λ (c : Kept). c.journal) cells = map_map (λ (w : Worker). w.journal) worker_of cells in
       subst (λ s. IsLawful script (record_with s cells)) (sym same) (subst (λ js. IsLawful script (record { host = stand.history; isolates = js })) journals lawful)
+
+  -- and the record that is kept of it
+  pub ends_lawful : IsWhole script → (next : Stand) (m : Move) (history : List Event) (journals : List (List Entry)) → (m, next) ≡ turn stand → m ≡ Blocked
+      → history ≡ next.history → journals ≡ map (λ (c : Kept). c.journal) cells → IsLawful script (record { host = history; isolates = journals })
+  ends_lawful whole next m history journals is blocked told kept =
+      subst (λ h. IsLawful script (record { host = h; isolates = journals })) (sym told)
+      (subst (λ js. IsLawful script (record { host = next.history; isolates = js })) (sym kept) (at_end whole next m is blocked))
 
 -- ---- receipts, one after another
 
