@@ -185,7 +185,7 @@ posted_once script = run_keeps script PostsOnce (λ n one other. cc one.at)
 abbrev pub IsAccounted : Stand → ℕ → Type 0
 IsAccounted stand n = (is_settled stand n ≡ true) ⊎ IsPosted stand.history n
 
-last_or : (n d : ℕ) → n < d + 1 → (n < d) ⊎ (n ≡ d)
+pub last_or : (n d : ℕ) → n < d + 1 → (n < d) ⊎ (n ≡ d)
 last_or n d below = grind (arith, below)
 
 accounted_drawing : (stand : Stand) (settled : Option Held) (stops : List ℕ) (event : Event)

@@ -1,5 +1,5 @@
 -- What became of the commands that make contexts.
-use Rattle.std.proofs.Common.{◌≡◌, ℕ, suc, zero, ◌+◌, ◌<◌, ◌≤◌, List, [], ◌∷◌, ◌++◌, length, true, nat_le, Option, Some, None, refl, subst, sym, ap, ◌∙◌, arith, ◌⊎◌, inl, inr, slice_get, slice_index_or, length-append}
+use Rattle.std.proofs.Common.{◌≡◌, ℕ, suc, zero, ◌<◌, ◌≤◌, List, [], ◌∷◌, ◌++◌, length, true, nat_le, Option, Some, None, refl, subst, sym, ap, ◌∙◌, arith, ◌⊎◌, inl, inr, slice_get, slice_index_or, length-append}
 use Rattle.task_history.specs.Lists.{posts, is_gone}
 use Rattle.task_history.specs.declared.task.Own.TheVariants.{Disposed}
 use Rattle.task_history.specs.declared.task.Task.{Task}
@@ -20,7 +20,7 @@ use Rattle.host_meaning.specs.Stand.{Stand, place, drawn, number_of}
 use Rattle.host_meaning.specs.Machine.{Request, asks_task, asks_stop, request, default_budget, most_calls, turn, task_of, drawing, passing, received, hearing, settling, held_by, replies_of, HostRun}
 use Rattle.host_laws.proofs.Turns.{turn_cases_shown, MayPass, MayPost, IsAsked, IsRefused, GoesTo, received_cases, run_keeps}
 use Rattle.host_laws.proofs.Lists.{slice_get-append_left, slice_get-append_here, posts_more, posts_post_here, still_gone}
-use Rattle.host_laws.proofs.Accounted.{drawn_drawing, length_set}
+use Rattle.host_laws.proofs.Accounted.{last_or, drawn_drawing, length_set}
 
 -- ---- an element of a list with one more
 
@@ -32,9 +32,6 @@ get_or-push_old (y ∷ xs) x d (suc k) below = get_or-push_old xs x d k (grind (
 get_or-push_here : {A : Type 0} (xs : List A) (x d : A) → slice_index_or (xs ++ x ∷ []) (length xs) d ≡ x
 get_or-push_here [] x d = refl
 get_or-push_here (y ∷ xs) x d = get_or-push_here xs x d
-
-last_or : (n d : ℕ) → n < d + 1 → (n < d) ⊎ (n ≡ d)
-last_or n d below = grind (arith, below)
 
 -- ---- a command that makes a context
 

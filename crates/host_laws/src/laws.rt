@@ -1,4 +1,4 @@
-//! What holds of the definitions of host runs and courses.
+//! What holds of every run of the host machine.
 
 ghost use Rattle.host_laws.specs.Known.{AreServed, PostsKnown};
 ghost use Rattle.host_laws.specs.Settled.{AccountsForEach, AllAreSettled, PostsDrawn, PostsOnce, SettlesByReplies, SettlesOnce, WaitsForNothing};
