@@ -28,7 +28,7 @@ use Rattle.host_meaning.specs.OneThread.{OneThread, OneCommand, after_entry}
 use Rattle.host_meaning.specs.OneThread.OneCommand.{own, posts, stops, asks_ended}
 use Rattle.host_meaning.specs.OneThread.OneThread.{opens, goes}
 use Rattle.host_meaning.specs.Lawful.{IsLawful}
-use Rattle.host_laws.specs.Driving.{fresh_cells, state_or_end, worker_of, scene_of, IsThere, CellsAre, outs_of, outs_at, AreReplies, record_with}
+use Rattle.host_laws.specs.Driving.{fresh_cells, state_or_end, worker_of, scene_of, HasState, CellsAre, outs_of, outs_at, AreReplies, record_with}
 use Rattle.host_laws.proofs.Turns.{turn_goes, script_turn, script_run, script_received_all, numbers_received_all}
 use Rattle.host_laws.proofs.Lists.{none_there, slice_get-append_here}
 use Rattle.host_laws.proofs.Targets.{post_within, ask_within, turn_blocked}
@@ -66,9 +66,9 @@ fresh_workers : (n : ℕ) (decls : List IsolateDecl) → map worker_of (fresh_ce
 fresh_workers n [] = refl
 fresh_workers n (decl ∷ decls) = ap (λ x. worker_of (fresh_cell n decl.limit) ∷ x) (fresh_workers (n + 1) decls)
 
-fresh_there : (n : ℕ) (decls : List IsolateDecl) (i : ℕ) (cell : Kept) → slice_get (fresh_cells n decls) i ≡ Some cell → IsThere cell.state
+fresh_there : (n : ℕ) (decls : List IsolateDecl) (i : ℕ) (cell : Kept) → slice_get (fresh_cells n decls) i ≡ Some cell → HasState cell.state
 fresh_there n [] i cell at = let no : ⊥ = cc in absurd no
-fresh_there n (decl ∷ decls) zero cell at = let same : fresh_cell n decl.limit ≡ cell = cc in subst (λ (c : Kept). IsThere c.state) same tt
+fresh_there n (decl ∷ decls) zero cell at = let same : fresh_cell n decl.limit ≡ cell = cc in subst (λ (c : Kept). HasState c.state) same tt
 fresh_there n (decl ∷ decls) (suc i) cell at = fresh_there (n + 1) decls i cell at
 
 pub at_begin : (script : HostScript) → CellsAre script (beginning script) (fresh_cells 0 script.isolates)
@@ -201,7 +201,7 @@ stopped_replies old = replies_by old old.state refl
 
 module _ (script : HostScript) (stand : Stand) (cells : List Kept) (are : CellsAre script stand cells) where
   -- the command that was done
-  goes_to : (next : Stand) (after : List Kept) → OneCommand (scene_of stand cells) (scene_of next after) → ((i : ℕ) (cell : Kept) → slice_get after i ≡ Some cell → IsThere cell.state) → CellsAre script next after
+  goes_to : (next : Stand) (after : List Kept) → OneCommand (scene_of stand cells) (scene_of next after) → ((i : ℕ) (cell : Kept) → slice_get after i ≡ Some cell → HasState cell.state) → CellsAre script next after
   goes_to next after command there = record { run = goes are.run command; none_void = there }
 
   pub after_own : (next : Stand) (m : Move) → (m, next) ≡ turn stand → m ≡ Own → CellsAre script next cells
@@ -233,11 +233,11 @@ module _ (script : HostScript) (stand : Stand) (cells : List Kept) (are : CellsA
         does = does;
         now = ap (λ s. scene_with s (map worker_of (slice_set cells i new))) stands ∙ ap (scene_with (received_all (turn stand).1 i p.entry.outs)) workers;
       }))
-      (each_set (λ (c : Kept). IsThere c.state) cells i new (subst (λ (c : Kept). IsThere c.state) (sym p.now) tt) are.none_void)
+      (each_set (λ (c : Kept). HasState c.state) cells i new (subst (λ (c : Kept). HasState c.state) (sym p.now) tt) are.none_void)
 
   ask_by : (next last : Stand) (m : Move) (i : ℕ) (old new : Kept) (state : Option State) → old.state ≡ state → (m, next) ≡ turn stand → m ≡ Ask i → slice_get cells i ≡ Some old → new ≡ stopped old
       → last ≡ received_all next i (outs_at new.journal (length old.journal)) → CellsAre script last (slice_set cells i new)
-  ask_by next last m i old new None was is asked at stop heard = absurd (subst IsThere was (are.none_void i old at))
+  ask_by next last m i old new None was is asked at stop heard = absurd (subst HasState was (are.none_void i old at))
   ask_by next last m i old new (Some (live contexts)) was is asked at stop heard =
       let isolate = isolate_in old (ended Host) in
       let now : new ≡ record old { journal = old.journal ++ stop_entry ∷ []; state = Some (ended Host) } = stop ∙ stop_live old contexts was in
@@ -257,7 +257,7 @@ module _ (script : HostScript) (stand : Stand) (cells : List Kept) (are : CellsA
         stop = host_stop;
         now = ap (λ s. scene_with s (map worker_of (slice_set cells i new))) stands ∙ ap (scene_with (received_all (turn stand).1 i stop_entry.outs)) workers;
       }))
-      (each_set (λ (c : Kept). IsThere c.state) cells i new (subst (λ (c : Kept). IsThere c.state) (sym now) tt) are.none_void)
+      (each_set (λ (c : Kept). HasState c.state) cells i new (subst (λ (c : Kept). HasState c.state) (sym now) tt) are.none_void)
   ask_by next last m i old new (Some (ended by)) was is asked at stop heard =
       let same : new ≡ old = stop ∙ stop_ended old by was in
       let after : slice_set cells i new ≡ cells = ap (slice_set cells i) same ∙ set_same cells i old at in
