@@ -8,6 +8,7 @@ use Rattle.task_history.specs.declared.task.Task.{Task}
 use Rattle.task_history.specs.declared.outcome.By.TheVariants.{Host}
 use Rattle.task_history.specs.declared.outcome.Out.{Out}
 use Rattle.task_history.specs.declared.record.Entry.{Entry}
+use Rattle.task_history.specs.declared.record.Event.{Event}
 use Rattle.task_history.specs.declared.outcome.By.{By}
 use Rattle.isolate_meaning.specs.State.{Context, State, live, ended, is_ended}
 use Rattle.isolate_meaning.specs.Fits.{Fits}
@@ -27,8 +28,8 @@ use Rattle.host_meaning.specs.OneThread.{OneThread, OneCommand, after_entry}
 use Rattle.host_meaning.specs.OneThread.OneCommand.{own, posts, stops, asks_ended}
 use Rattle.host_meaning.specs.OneThread.OneThread.{opens, goes}
 use Rattle.host_meaning.specs.Lawful.{IsLawful}
-use Rattle.host_laws.specs.Driving.{fresh_cells, state_or_end, worker_of, scene_of, IsThere, CellsAre, outs_of, outs_at, AreReplies, record_with}
-use Rattle.host_laws.proofs.Turns.{turn_goes, script_run, script_received_all, numbers_received_all}
+use Rattle.host_laws.specs.Driving.{fresh_cells, state_or_end, worker_of, scene_of, HasState, CellsAre, outs_of, outs_at, AreReplies, record_with}
+use Rattle.host_laws.proofs.Turns.{turn_goes, script_turn, script_run, script_received_all, numbers_received_all}
 use Rattle.host_laws.proofs.Lists.{none_there, slice_get-append_here}
 use Rattle.host_laws.proofs.Targets.{post_within, ask_within, turn_blocked}
 use Rattle.host_laws.proofs.Workers.{scene_with, get_set}
@@ -65,9 +66,9 @@ fresh_workers : (n : ℕ) (decls : List IsolateDecl) → map worker_of (fresh_ce
 fresh_workers n [] = refl
 fresh_workers n (decl ∷ decls) = ap (λ x. worker_of (fresh_cell n decl.limit) ∷ x) (fresh_workers (n + 1) decls)
 
-fresh_there : (n : ℕ) (decls : List IsolateDecl) (i : ℕ) (cell : Kept) → slice_get (fresh_cells n decls) i ≡ Some cell → IsThere cell.state
+fresh_there : (n : ℕ) (decls : List IsolateDecl) (i : ℕ) (cell : Kept) → slice_get (fresh_cells n decls) i ≡ Some cell → HasState cell.state
 fresh_there n [] i cell at = let no : ⊥ = cc in absurd no
-fresh_there n (decl ∷ decls) zero cell at = let same : fresh_cell n decl.limit ≡ cell = cc in subst (λ (c : Kept). IsThere c.state) same tt
+fresh_there n (decl ∷ decls) zero cell at = let same : fresh_cell n decl.limit ≡ cell = cc in subst (λ (c : Kept). HasState c.state) same tt
 fresh_there n (decl ∷ decls) (suc i) cell at = fresh_there (n + 1) decls i cell at
 
 pub at_begin : (script : HostScript) → CellsAre script (beginning script) (fresh_cells 0 script.isolates)
@@ -136,6 +137,12 @@ module _ (script : HostScript) (stand : Stand) (cells : List Kept) (whole : IsWh
   ask_index next m i is asks =
       subst (λ n. i < n) (sym count_cells) (ask_within script stand i whole script_of_cells (sym (ap (λ x. x.0) is) ∙ asks))
 
+  -- the host's script is the same after a move, and has the isolates of these cells
+  pub within_next : (next : Stand) (m : Move) (i : ℕ) → (m, next) ≡ turn stand → i < length cells → i < length next.script.isolates
+  within_next next m i is l =
+      let same : next.script ≡ script = ap (λ x. x.1.script) is ∙ script_turn stand ∙ script_of_cells in
+      subst (λ (s : HostScript). i < length s.isolates) (sym same) (subst (λ n. i < n) count_cells l)
+
   -- the cell that a task is posted to may carry it out
   pub post_fits : (next : Stand) (m : Move) (i : ℕ) (task : Task) (cell : Kept) → (m, next) ≡ turn stand → m ≡ Post i task → slice_get cells i ≡ Some cell → MayPerform cell task
   post_fits next m i task cell is posted at =
@@ -194,7 +201,7 @@ stopped_replies old = replies_by old old.state refl
 
 module _ (script : HostScript) (stand : Stand) (cells : List Kept) (are : CellsAre script stand cells) where
   -- the command that was done
-  goes_to : (next : Stand) (after : List Kept) → OneCommand (scene_of stand cells) (scene_of next after) → ((i : ℕ) (cell : Kept) → slice_get after i ≡ Some cell → IsThere cell.state) → CellsAre script next after
+  goes_to : (next : Stand) (after : List Kept) → OneCommand (scene_of stand cells) (scene_of next after) → ((i : ℕ) (cell : Kept) → slice_get after i ≡ Some cell → HasState cell.state) → CellsAre script next after
   goes_to next after command there = record { run = goes are.run command; none_void = there }
 
   pub after_own : (next : Stand) (m : Move) → (m, next) ≡ turn stand → m ≡ Own → CellsAre script next cells
@@ -226,11 +233,11 @@ module _ (script : HostScript) (stand : Stand) (cells : List Kept) (are : CellsA
         does = does;
         now = ap (λ s. scene_with s (map worker_of (slice_set cells i new))) stands ∙ ap (scene_with (received_all (turn stand).1 i p.entry.outs)) workers;
       }))
-      (each_set (λ (c : Kept). IsThere c.state) cells i new (subst (λ (c : Kept). IsThere c.state) (sym p.now) tt) are.none_void)
+      (each_set (λ (c : Kept). HasState c.state) cells i new (subst (λ (c : Kept). HasState c.state) (sym p.now) tt) are.none_void)
 
   ask_by : (next last : Stand) (m : Move) (i : ℕ) (old new : Kept) (state : Option State) → old.state ≡ state → (m, next) ≡ turn stand → m ≡ Ask i → slice_get cells i ≡ Some old → new ≡ stopped old
       → last ≡ received_all next i (outs_at new.journal (length old.journal)) → CellsAre script last (slice_set cells i new)
-  ask_by next last m i old new None was is asked at stop heard = absurd (subst IsThere was (are.none_void i old at))
+  ask_by next last m i old new None was is asked at stop heard = absurd (subst HasState was (are.none_void i old at))
   ask_by next last m i old new (Some (live contexts)) was is asked at stop heard =
       let isolate = isolate_in old (ended Host) in
       let now : new ≡ record old { journal = old.journal ++ stop_entry ∷ []; state = Some (ended Host) } = stop ∙ stop_live old contexts was in
@@ -250,7 +257,7 @@ module _ (script : HostScript) (stand : Stand) (cells : List Kept) (are : CellsA
         stop = host_stop;
         now = ap (λ s. scene_with s (map worker_of (slice_set cells i new))) stands ∙ ap (scene_with (received_all (turn stand).1 i stop_entry.outs)) workers;
       }))
-      (each_set (λ (c : Kept). IsThere c.state) cells i new (subst (λ (c : Kept). IsThere c.state) (sym now) tt) are.none_void)
+      (each_set (λ (c : Kept). HasState c.state) cells i new (subst (λ (c : Kept). HasState c.state) (sym now) tt) are.none_void)
   ask_by next last m i old new (Some (ended by)) was is asked at stop heard =
       let same : new ≡ old = stop ∙ stop_ended old by was in
       let after : slice_set cells i new ≡ cells = ap (slice_set cells i) same ∙ set_same cells i old at in
@@ -275,6 +282,13 @@ module _ (script : HostScript) (stand : Stand) (cells : List Kept) (are : CellsA
       course_is_lawful script (scene_of stand cells) whole (one_thread_course script (scene_of stand cells) are.run) (one_thread_rests script (scene_of stand cells) are.run none) in
       let journals : (record_of (scene_of stand cells)).isolates ≡ map (λ (c : Kept). c.journal) cells = map_map (λ (w : Worker). w.journal) worker_of cells in
       subst (λ s. IsLawful script (record_with s cells)) (sym same) (subst (λ js. IsLawful script (record { host = stand.history; isolates = js })) journals lawful)
+
+  -- and the record that is kept of it
+  pub ends_lawful : IsWhole script → (next : Stand) (m : Move) (history : List Event) (journals : List (List Entry)) → (m, next) ≡ turn stand → m ≡ Blocked
+      → history ≡ next.history → journals ≡ map (λ (c : Kept). c.journal) cells → IsLawful script (record { host = history; isolates = journals })
+  ends_lawful whole next m history journals is blocked told kept =
+      subst (λ h. IsLawful script (record { host = h; isolates = journals })) (sym told)
+      (subst (λ js. IsLawful script (record { host = next.history; isolates = js })) (sym kept) (at_end whole next m is blocked))
 
 -- ---- receipts, one after another
 

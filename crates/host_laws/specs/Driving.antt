@@ -34,15 +34,15 @@ worker_of cell = record { isolate = isolate_in cell (state_or_end cell.state); j
 abbrev pub scene_of : Stand → List Kept → Scene
 scene_of stand cells = record { stand = stand; workers = map worker_of cells }
 
--- some state is there
-abbrev pub IsThere : Option State → Type 0
-IsThere None = ⊥
-IsThere (Some state) = Unit {0}
+-- a cell has a state unless it is void
+abbrev pub HasState : Option State → Type 0
+HasState None = ⊥
+HasState (Some state) = Unit {0}
 
 -- the run on one thread has led the host and the cells to where they stand, and no cell is void
 pub record CellsAre (script : HostScript) (stand : Stand) (cells : List Kept) : Type 0 where
   pub run : OneThread script (scene_of stand cells)
-  pub none_void : (i : ℕ) (cell : Kept) → slice_get cells i ≡ Some cell → IsThere cell.state
+  pub none_void : (i : ℕ) (cell : Kept) → slice_get cells i ≡ Some cell → HasState cell.state
 
 -- ---- outs
 
