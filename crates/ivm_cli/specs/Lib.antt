@@ -3,4 +3,3 @@ pub mod Status
 pub mod Texts
 pub mod HostRead
 pub mod Run
-pub mod Driving

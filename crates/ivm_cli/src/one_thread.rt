@@ -3,9 +3,8 @@ ghost use Rattle.std.specs.Prelude.{◌≡◌, ◌<◌, ◌≤◌, length, map, 
 ghost use Rattle.isolate_meaning.specs.Replay.{Kept, MayPerform, Performs, stopped};
 ghost use Rattle.host_syntax.specs.Whole.{IsWhole};
 ghost use Rattle.host_meaning.specs.Lawful.{IsLawful};
-ghost use Rattle.host_meaning.specs.Machine.{received_all};
-ghost use Rattle.host_laws.specs.Driving.{fresh_cells, outs_at};
-ghost use Rattle.ivm_cli.specs.Driving.{AreReplies};
+ghost use Rattle.host_meaning.specs.Machine.{MayReceive, received, received_all};
+ghost use Rattle.host_laws.specs.Driving.{AreReplies, fresh_cells, outs_at};
 
 use host_machine::Host;
 use host_meaning::Move;
@@ -28,7 +27,7 @@ pub fn carry_out(alloc: Global, script: &HostScript) -> Result<Record, NoMemory>
             Move::Blocked => break,
             Move::Own => {}
             Move::Post { isolate, task } => {
-                perform(&mut host, &mut cells[isolate as usize], isolate, &task)?;
+                perform(&mut host, &mut cells[isolate as usize], isolate, task)?
             }
             Move::Ask { isolate } => stop(&mut host, &mut cells[isolate as usize], isolate)?,
         }
@@ -52,14 +51,14 @@ fn fresh_cells(alloc: Global, decls: &[IsolateDecl]) -> Result<Vec<Cell>, NoMemo
 }
 
 // Performs a task, and has the host receive all that it sent out.
-fn perform(host: &mut Host, cell: &mut Cell, isolate: u32, task: &Task) -> Result<(), NoMemory>
-    requires fits { MayPerform cell.old task.now }
+fn perform(host: &mut Host, cell: &mut Cell, isolate: u32, task: Task) -> Result<(), NoMemory>
+    requires fits { MayPerform cell.old task }
     requires within { isolate < length host.old.script.isolates }
-    ensures cell { OnOk result (Performs task.now cell.old cell.new) }
+    ensures cell { OnOk result (Performs task cell.old cell.new) }
     ensures host { OnOk result (host.new ≡ received_all host.old isolate (outs_at cell.new.journal (length cell.old.journal))) }
 {
     let place = cell.journal().len();
-    cell.perform(task)?;
+    cell.perform(&task)?;
     receive_from(host, cell, isolate, place)
 }
 
@@ -75,7 +74,7 @@ fn stop(host: &mut Host, cell: &mut Cell, isolate: u32) -> Result<(), NoMemory>
 }
 
 // Has the host receive the outs of the entry at a place, if there is one.
-fn receive_from(host: &mut Host, cell: &Cell, isolate: u32, place: u32) -> Result<(), NoMemory>
+fn receive_from(host: &mut Host, cell: &Cell, isolate: u32, place: usize) -> Result<(), NoMemory>
     requires within { isolate < length host.old.script.isolates }
     requires replies { AreReplies (outs_at cell.now.journal place) }
     ensures { OnOk result (host.new ≡ received_all host.old isolate (outs_at cell.now.journal place)) }
@@ -93,8 +92,17 @@ fn receive_all(host: &mut Host, isolate: u32, outs: &[Out]) -> Result<(), NoMemo
     ensures { OnOk result (host.new ≡ received_all host.old isolate outs.now) }
 {
     for out in outs {
-        host.receive(isolate, out)?;
+        receive(host, isolate, out)?;
     }
+    Ok(())
+}
+
+// Has the host receive one out of an isolate. No task follows from a reply.
+fn receive(host: &mut Host, isolate: u32, out: &Out) -> Result<(), NoMemory>
+    requires { MayReceive host.old.script isolate out.now }
+    ensures { OnOk result (host.new ≡ received host.old isolate out.now) }
+{
+    let _follows = host.receive(isolate, out)?;
     Ok(())
 }
 
