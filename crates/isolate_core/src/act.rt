@@ -1,10 +1,8 @@
 //! What one task does to the contexts of a live isolate.
 
 ghost use Rattle.std.specs.Prelude.{◌≡◌, ◌<◌, length, IfOk};
-ghost use Rattle.std.specs.Option.{unwrap_or};
 ghost use Rattle.small_syntax.specs.Meaning.{property};
-ghost use Rattle.isolate_meaning.specs.State.{live};
-ghost use Rattle.isolate_meaning.specs.Fits.{Fits, IsPrimitive, IsSoundAct, IsSoundKind, NamesIn};
+ghost use Rattle.isolate_meaning.specs.Fits.{IsSoundAct, IsSoundKind, NamesIn};
 ghost use Rattle.isolate_meaning.specs.Does.{Acts, ActsOn, Sets, EvaluatesIn, MakesContext, context_at, entry_of, error, outcome_of, primitive, root_of};
 ghost use Rattle.isolate_core.specs.Only.{IsOnlyAct, IsOnlyActOn, IsOnlyEvaluation};
 

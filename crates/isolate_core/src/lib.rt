@@ -12,5 +12,7 @@ mod cell;
 mod contexts;
 mod ledger;
 mod life;
+#[cfg(test)]
+mod tests;
 
 pub use cell::Cell;

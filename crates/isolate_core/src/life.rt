@@ -1,6 +1,6 @@
 //! The state of an isolate, and what a task does to it.
 
-ghost use Rattle.std.specs.Prelude.{None, IfOk, OnOk};
+ghost use Rattle.std.specs.Prelude.{IfOk};
 ghost use Rattle.isolate_meaning.specs.Replay.{FitsUnlessVoid};
 ghost use Rattle.isolate_core.specs.Life.{state_of, CarriesOut};
 
