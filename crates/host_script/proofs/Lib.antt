@@ -1,6 +1,8 @@
 pub mod LineLemmas
 pub mod Places
-pub mod TextLemmas
 pub mod NameLemmas
+pub mod TextLemmas
 pub mod ScriptLemmas
-pub mod FaultLemmas
+pub mod WholeLemmas
+pub mod RuleLemmas
+pub mod EndLemmas

@@ -3,7 +3,7 @@
 use Rattle.std.specs.Prelude.{◌≡◌, ℕ, Result, Ok, Err}
 use Rattle.host_script.specs.declared.fault.HostFault.{HostFault}
 use Rattle.host_script.specs.declared.fault.HostFault.TheVariants.{At, NoMemory}
-use Rattle.host_script.specs.declared.fault.HostKind.TheVariants.{UnknownCommand}
+use Rattle.host_script.specs.declared.fault.HostKind.{HostKind}
 
 -- what follows from an answer, or the same fault
 infixl 10 ◌>>=◌
@@ -11,9 +11,9 @@ abbrev pub ◌>>=◌ : {A B : Type 0} → Result A HostFault → (A → Result B
 (Ok answer) >>= next = next answer
 (Err fault) >>= next = Err fault
 
--- line n isn't of the form that is wanted at its place
-abbrev pub unknown : {A : Type 0} → ℕ → Result A HostFault
-unknown n = Err (At n UnknownCommand)
+-- line n has a fault of this kind
+abbrev pub fail : {A : Type 0} → ℕ → HostKind → Result A HostFault
+fail n kind = Err (At n kind)
 
 -- a fault is the one that is meant, unless no memory was found
 abbrev pub Fails : {B : Type 0} → HostFault → Result B HostFault → Type 0

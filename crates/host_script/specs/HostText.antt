@@ -1,18 +1,21 @@
 -- The host script that bytes are, or the first fault that keeps them from being one.
--- This project's own; docs/HOST.md, "Commands".
-use Rattle.std.specs.Prelude.{ℕ, ◌+◌, ◌==◌, ◌&&◌, ◌||◌, Bool, suc, zero, not, List, [], ◌∷◌, length, codes, nat_eq, nat_le, nat_lt, if◌then◌else◌, Result, Ok, Err}
+-- This project's own; docs/HOST.md, "Lines" and "Faults".
+use Rattle.std.specs.Prelude.{ℕ, ◌+◌, ◌==◌, ◌||◌, Bool, true, false, suc, zero, not, List, [], ◌∷◌, length, codes, nat_eq, nat_lt, if◌then◌else◌, Option, None, Some, Result, Ok}
 use Rattle.std.specs.List.{starts_with}
+use Rattle.std.specs.Option.{option_map_or}
 use Rattle.std.specs.Str.{bytes_eq, is_utf8}
-use Rattle.ivm_text.specs.declared.copies.Want.TheVariants.{Value}
+use Rattle.host_syntax.specs.declared.script.HostScript.{HostScript}
+use Rattle.host_script.specs.declared.commands.CommandWord.{CommandWord}
+use Rattle.host_script.specs.declared.commands.CommandWord.TheVariants.{Isolate, Context, Eval, Get, Set, Dispose, Wait}
+use Rattle.host_script.specs.declared.draft.Draft.{Draft}
 use Rattle.host_script.specs.declared.fault.HostFault.{HostFault}
-use Rattle.host_script.specs.declared.fault.HostFault.TheVariants.{At}
-use Rattle.host_script.specs.declared.fault.HostKind.TheVariants.{TooLong}
-use Rattle.host_script.specs.declared.script.HostScript.{HostScript}
-use Rattle.host_script.specs.declared.script.What.TheVariants.{Context, Eval}
-use Rattle.host_script.specs.Words.{lines_of, skip_blanks, after_word, behind, word, ends_after}
+use Rattle.host_script.specs.declared.fault.HostKind.TheVariants.{TooLong, BadUtf8, UnknownCommand, OpenText}
+use Rattle.host_script.specs.declared.text.Text.{Text}
+use Rattle.host_script.specs.declared.text.Text.TheVariants.{Missing, Open, Given}
+use Rattle.host_script.specs.Words.{lines_of, skip_blanks, after_word, word}
 use Rattle.host_script.specs.Texts.{text_of}
-use Rattle.host_script.specs.Faults.{◌>>=◌, unknown}
-use Rattle.host_script.specs.Script.{no_lines, names_of, is_free, has_isolate, has_label, with_isolate, with_command}
+use Rattle.host_script.specs.Faults.{◌>>=◌, fail}
+use Rattle.host_script.specs.Commands.{no_lines, isolate_line, context_line, eval_line, get_line, set_line, dispose_line, wait_line}
 
 -- the bytes that a script may have
 abbrev pub most_bytes : ℕ
@@ -22,46 +25,71 @@ most_bytes = 4194304
 abbrev pub is_skipped : List ℕ → Bool
 is_skipped line = length (skip_blanks line) == 0 || starts_with nat_eq (skip_blanks line) (codes "#")
 
--- `isolate NAME` at line n: the first of all commands, under a new name
-abbrev pub isolate_line : ℕ → HostScript → List ℕ → Result HostScript HostFault
-isolate_line n script words =
-    if length script.commands == 0 && ends_after 1 words && is_free (names_of script) (word 0 words)
-    then Ok (with_isolate script (word 0 words)) else unknown n
+-- the command that a word is
+unfoldable pub command_of : List ℕ → Option CommandWord
+command_of word =
+    if bytes_eq word (codes "isolate") then Some Isolate
+    else if bytes_eq word (codes "context") then Some Context
+    else if bytes_eq word (codes "eval") then Some Eval
+    else if bytes_eq word (codes "get") then Some Get
+    else if bytes_eq word (codes "set") then Some Set
+    else if bytes_eq word (codes "dispose") then Some Dispose
+    else if bytes_eq word (codes "wait") then Some Wait
+    else None
 
--- `context LABEL NAME` at line n: the second, under a new label, in the isolate of that name
-abbrev pub context_line : ℕ → HostScript → List ℕ → Result HostScript HostFault
-context_line n script words =
-    if length script.commands == 1 && ends_after 2 words && is_free (names_of script) (word 0 words) && has_isolate script (word 1 words)
-    then Ok (with_command script (word 0 words) (Context 0)) else unknown n
+-- the commands that can have a text
+abbrev pub can_have_text : CommandWord → Bool
+can_have_text Isolate = false
+can_have_text Context = false
+can_have_text Eval = true
+can_have_text Get = false
+can_have_text Set = true
+can_have_text Dispose = false
+can_have_text Wait = false
 
--- where an `eval LABEL CONTEXT` may stand: after the context, as one of at most 1,000, under a new label, in that context
-abbrev pub may_eval : HostScript → List ℕ → Bool
-may_eval script words = nat_le 2 (length script.commands) && nat_lt (length script.commands) 1002
-    && is_free (names_of script) (word 0 words) && has_label script 1 (word 1 words)
+-- what a command at line n adds, given its words and its text
+unfoldable pub command_line : CommandWord → ℕ → Draft → List ℕ → Option (List ℕ) → Result Draft HostFault
+command_line Isolate = isolate_line
+command_line Context = context_line
+command_line Eval = eval_line
+command_line Get = get_line
+command_line Set = set_line
+command_line Dispose = dispose_line
+command_line Wait = wait_line
 
--- `eval LABEL CONTEXT TEXT` at line n, with the lines after it: the text is run within 1,000,000 ticks
-abbrev pub eval_line : ℕ → HostScript → List ℕ → List (List ℕ) → Result (HostScript × ℕ) HostFault
-eval_line n script words after =
-    if may_eval script words
-    then (text_of n (behind 2 words) after >>= λ text. Ok (with_command script (word 0 words) (Eval 1 1000000 Value text.0), text.1))
-    else unknown n
+-- an answer, unless a line of the text before it isn't UTF-8
+abbrev pub unless_bad : {A : Type 0} → Option ℕ → A → Result A HostFault
+unless_bad None answer = Ok answer
+unless_bad (Some n) answer = fail n BadUtf8
+
+-- a command with its text, which takes this many lines: its own line's faults come before those of the text's lines
+abbrev pub with_text : CommandWord → ℕ → Draft → List ℕ → Text → ℕ → Result (Draft × ℕ) HostFault
+with_text command n draft words Missing taken = command_line command n draft words None >>= λ next. Ok (next, taken)
+with_text command n draft words Open taken = fail n OpenText
+with_text command n draft words (Given text bad) taken =
+    command_line command n draft words (Some text) >>= λ next. unless_bad bad (next, taken)
+
+-- a command on line n, with the lines after it: a text that is too long is told before all else
+unfoldable pub with_command : CommandWord → ℕ → Draft → List ℕ → List (List ℕ) → Result (Draft × ℕ) HostFault
+with_command command n draft line after =
+    text_of (can_have_text command) n (after_word line) after >>= λ parts.
+    if not (is_utf8 line) then fail n BadUtf8 else with_text command n draft parts.0 parts.1 parts.2
 
 -- the script with what stands on line n, and how many of the lines after it belong to its text
-abbrev pub with_line : ℕ → HostScript → List ℕ → List (List ℕ) → Result (HostScript × ℕ) HostFault
-with_line n script line after =
-    if not (is_utf8 line) then unknown n
-    else if is_skipped line then Ok (script, 0)
-    else if bytes_eq (word 0 line) (codes "isolate") then (isolate_line n script (after_word line) >>= λ s. Ok (s, 0))
-    else if bytes_eq (word 0 line) (codes "context") then (context_line n script (after_word line) >>= λ s. Ok (s, 0))
-    else if bytes_eq (word 0 line) (codes "eval") then eval_line n script (after_word line) after
-    else unknown n
+abbrev pub with_line : ℕ → Draft → List ℕ → List (List ℕ) → Result (Draft × ℕ) HostFault
+with_line n draft line after =
+    if is_skipped line then (if is_utf8 line then Ok (draft, 0) else fail n BadUtf8)
+    else option_map_or (λ command. with_command command n draft line after) (command_of (word 0 line))
+    (fail n (if is_utf8 line then UnknownCommand else BadUtf8))
 
 -- the script with the lines from the nth on, of which the first `inside` belong to a text before them
-abbrev pub with_lines : ℕ → ℕ → HostScript → List (List ℕ) → Result HostScript HostFault
-with_lines n inside script [] = Ok script
-with_lines n (suc inside) script (line ∷ after) = with_lines (n + 1) inside script after
-with_lines n zero script (line ∷ after) = with_line n script line after >>= λ next. with_lines (n + 1) next.1 next.0 after
+abbrev pub with_lines : ℕ → ℕ → Draft → List (List ℕ) → Result Draft HostFault
+with_lines n inside draft [] = Ok draft
+with_lines n (suc inside) draft (line ∷ after) = with_lines (n + 1) inside draft after
+with_lines n zero draft (line ∷ after) = with_line n draft line after >>= λ next. with_lines (n + 1) next.1 next.0 after
 
 -- what these bytes say, or their first fault
 abbrev pub host_of : List ℕ → Result HostScript HostFault
-host_of bytes = if nat_lt most_bytes (length bytes) then Err (At 0 TooLong) else with_lines 1 0 no_lines (lines_of bytes)
+host_of bytes =
+    if nat_lt most_bytes (length bytes) then fail 0 TooLong
+    else (with_lines 1 0 no_lines (lines_of bytes) >>= λ draft. Ok draft.script)

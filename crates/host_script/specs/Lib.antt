@@ -1,5 +1,8 @@
+pub mod Commands
 pub mod Faults
 pub mod HostText
+pub mod Literals
+pub mod Names
 pub mod Script
 pub mod Steps
 pub mod Texts

@@ -1,106 +1,32 @@
 //! A script that is being read, and what one line adds to it.
-ghost use Rattle.std.specs.Prelude.{◌≡◌, ◌+◌, ◌-◌, ◌≤◌, ◌∷◌, ◌++◌, ◌≢◌, [], length, true, false, slice_get, Some, IfOk, Ok, OnOk, if◌then◌else◌};
-ghost use Rattle.std.specs.Str.{bytes_eq};
-ghost use Rattle.host_script.specs.Faults.{Gives, unknown};
+ghost use Rattle.std.specs.Prelude.{◌≡◌, ℕ, ◌+◌, ◌-◌, ◌<◌, ◌≤◌, ◌∷◌, ◌++◌, length, None, Some, IfOk, OnOk, map, sum, if◌then◌else◌};
+ghost use Rattle.std.specs.Str.{is_utf8};
+ghost use Rattle.host_script.specs.Faults.{Gives};
 ghost use Rattle.host_script.specs.Words.{lines_of};
-ghost use Rattle.host_script.specs.Script.{no_lines, is_free, has_isolate, has_label};
-ghost use Rattle.host_script.specs.HostText.{is_skipped, isolate_line, context_line, eval_line, with_line};
-ghost use Rattle.host_script.specs.Steps.{Goes, IsNoted};
+ghost use Rattle.host_script.specs.Names.{named};
+ghost use Rattle.host_script.specs.Commands.{no_lines, cells_of, with_isolate, with_named, with_context, with_call, with_wait};
+ghost use Rattle.host_script.specs.HostText.{is_skipped, unless_bad, with_text, with_command, with_line, command_line};
+ghost use Rattle.host_script.specs.Steps.{Goes};
 
-use crate::fault::unknown;
+use crate::commands::{CommandWord, command_of};
+use crate::fault::at;
 use crate::lines::Lines;
-use crate::text::{is_text, read_text};
-use crate::words::{is_end, is_name, next_word, skip_blanks};
-use crate::{Command, HostFault, HostScript, IsolateDecl, What};
-use indexmap::IndexSet;
+use crate::names::{Named, Names};
+use crate::text::{Text, is_utf8, read_text};
+use crate::words::{next_word, skip_blanks};
+use crate::{Command, HostFault, HostKind, HostScript, IsolateDecl, What};
 use item_list::{CloneWhole, Items};
-use ivm_text::{Units, Want};
+use ivm_text::{Bytes, Units};
 use std::alloc::Global;
 
-const CELLS: u32 = 1_000_000;
-
-const TICKS: u32 = 1_000_000;
-
-const MOST_COMMANDS: u32 = 1_002;
+// What each isolate may have.
+pub(crate) const CELLS: u32 = 1_000_000;
 
 // The script so far, and the names that it has given.
 #[derive(Drop)]
 pub(crate) struct Draft {
     pub(crate) script: HostScript,
-    pub(crate) names: IndexSet<Units>,
-}
-
-// Notes a new name.
-fn new_name(
-    alloc: Global,
-    names: &mut IndexSet<Units>,
-    name: &[u8],
-    number: u32,
-) -> Result<Units, HostFault>
-    ensures gives { Gives (λ units. units) result (if is_free names.old.keys name.now then Ok name.now else unknown number) }
-    ensures label { IfOk result (λ units. units ≡ name.now) }
-    ensures free { OnOk result (is_free names.old.keys name.now ≡ true) }
-    ensures names { OnOk result (names.new.keys ≡ names.old.keys ++ name.now ∷ []) }
-{
-    if !is_name(name) {
-        return Err(unknown(number));
-    }
-    let units = Units::from_latin1(alloc, name)?;
-    let is_new = names.insert(units.clone_whole(alloc)?)?;
-    if !is_new {
-        return Err(unknown(number));
-    }
-    Ok(units)
-}
-
-// Whether an isolate has this name.
-fn has_isolate(script: &HostScript, name: &[u8]) -> bool
-    ensures { result ≡ has_isolate script.now name.now }
-{
-    script
-        .isolates
-        .as_slice()
-        .iter()
-        .any(|decl| is_same(&decl.name, name))
-}
-
-// Whether the command at this place has this label.
-fn has_label(script: &HostScript, place: u32, name: &[u8]) -> bool
-    ensures { result ≡ has_label script.now place name.now }
-{
-    match script.commands.get(place) {
-        Some(command) => match &command.label {
-            Some(label) => is_same(label, name),
-            None => false,
-        },
-        None => false,
-    }
-}
-
-// Whether the unit at this place is this byte.
-fn has_unit(units: &Units, place: usize, byte: u8) -> bool
-    ensures yes { result ≡ true → slice_get units.now place ≡ Some byte }
-    ensures no { result ≡ false → slice_get units.now place ≢ Some byte }
-{
-    match units.get(place) {
-        Some(unit) => unit == byte as u16,
-        None => false,
-    }
-}
-
-// Whether a name has these bytes.
-fn is_same(units: &Units, name: &[u8]) -> bool
-    ensures { result ≡ bytes_eq name.now units.now }
-{
-    if units.len() != name.len() {
-        return false;
-    }
-    for place in 0..name.len() {
-        if !has_unit(units, place, name[place]) {
-            return false;
-        }
-    }
-    true
+    pub(crate) names: Names,
 }
 
 // A blank line, or one that begins with `#`.
@@ -111,33 +37,61 @@ fn is_skipped(line: &[u8]) -> bool
     rest.is_empty() || rest.starts_with(b"#")
 }
 
+// Whether a line is UTF-8, else its fault.
+fn check_utf8(line: &[u8], number: u32) -> Result<(), HostFault>
+    ensures { result ≡ (if is_utf8 line.now then Ok tt else Err (HostFault.At number HostKind.BadUtf8)) }
+{
+    if !is_utf8(line) {
+        return Err(at(number, HostKind::BadUtf8));
+    }
+    Ok(())
+}
+
+// A fault of a text's own lines, where there is one.
+fn check_lines(bad: Option<u32>) -> Result<(), HostFault>
+    ensures { result ≡ unless_bad bad tt }
+{
+    match bad {
+        Some(line) => Err(at(line, HostKind::BadUtf8)),
+        None => Ok(()),
+    }
+}
+
 impl Draft {
     // The script of no lines.
     pub(crate) fn new(alloc: Global) -> Draft
-        ensures empty { result.script ≡ no_lines }
-        ensures noted { IsNoted result.names.keys result.script }
+        ensures { result ≡ no_lines }
     {
         Draft {
             script: HostScript {
                 isolates: Items::new(alloc),
                 commands: Items::new(alloc),
             },
-            names: IndexSet::new(alloc),
+            names: Names::new(alloc),
         }
     }
 
-    // `isolate NAME`
-    fn isolate(&mut self, alloc: Global, words: &[u8], number: u32) -> Result<(), HostFault>
-        requires { IsNoted self.old.names.keys self.old.script }
-
-        ensures gives { Gives (λ _. self.new.script) result (isolate_line number self.old.script words.now) }
-        ensures noted { OnOk result (IsNoted self.new.names.keys self.new.script) }
+    // The cells that the isolates may have together.
+    pub(crate) fn cells(&self) -> u64
+        requires { length self.now.script.isolates ≤ 64 }
+        ensures { result ≡ cells_of self.now.script }
     {
-        let (name, rest) = next_word(words);
-        if self.script.commands.len() != 0 || !is_end(rest) {
-            return Err(unknown(number));
-        }
-        let name = new_name(alloc, &mut self.names, name, number)?;
+        self.script
+            .isolates
+            .as_slice()
+            .iter()
+            .map(|decl| decl.limit as u64)
+            .sum()
+    }
+
+    // Adds an isolate.
+    pub(crate) fn add_isolate(&mut self, alloc: Global, name: Units) -> Result<(), HostFault>
+        requires { named name self.old.names ≡ None }
+        ensures { Gives (λ _. self.new) result (Ok (with_isolate self.old name)) }
+    {
+        let isolate = self.script.isolates.len();
+        self.names
+            .enter(name.clone_whole(alloc)?, Named::Isolate(isolate))?;
         self.script
             .isolates
             .push(IsolateDecl { name, limit: CELLS })?;
@@ -148,55 +102,112 @@ impl Draft {
         Ok(())
     }
 
-    // `context LABEL NAME`
-    fn context(&mut self, alloc: Global, words: &[u8], number: u32) -> Result<(), HostFault>
-        requires { IsNoted self.old.names.keys self.old.script }
-
-        ensures gives { Gives (λ _. self.new.script) result (context_line number self.old.script words.now) }
-        ensures noted { OnOk result (IsNoted self.new.names.keys self.new.script) }
+    // Adds a call, under a label that stands for it.
+    fn add_named(
+        &mut self,
+        alloc: Global,
+        label: Units,
+        what: What,
+        meaning: Named,
+    ) -> Result<(), HostFault>
+        requires { named label self.old.names ≡ None }
+        ensures { Gives (λ _. self.new) result (Ok (with_named self.old label what meaning)) }
     {
-        let (label, rest) = next_word(words);
-        let (isolate, rest) = next_word(rest);
-        if self.script.commands.len() != 1 || !is_end(rest) || !has_isolate(&self.script, isolate) {
-            return Err(unknown(number));
-        }
-        let label = new_name(alloc, &mut self.names, label, number)?;
+        self.names.enter(label.clone_whole(alloc)?, meaning)?;
         self.script.commands.push(Command {
             label: Some(label),
-            what: What::Context { isolate: 0 },
+            what,
         })?;
         Ok(())
     }
 
-    // `eval LABEL CONTEXT TEXT`
-    fn eval(&mut self, alloc: Global, words: &[u8], lines: &mut Lines<'_>) -> Result<(), HostFault>
-        requires noted { IsNoted self.old.names.keys self.old.script }
+    // Adds a call that makes a context.
+    pub(crate) fn add_context(
+        &mut self,
+        alloc: Global,
+        label: Units,
+        isolate: u32,
+    ) -> Result<(), HostFault>
+        requires { named label self.old.names ≡ None }
+        ensures { Gives (λ _. self.new) result (Ok (with_context self.old label isolate)) }
+    {
+        let number = self.script.commands.len();
+        self.add_named(
+            alloc,
+            label,
+            What::Context { isolate },
+            Named::Context(number),
+        )
+    }
+
+    // Adds any other call.
+    pub(crate) fn add_call(
+        &mut self,
+        alloc: Global,
+        label: Units,
+        what: What,
+    ) -> Result<(), HostFault>
+        requires { named label self.old.names ≡ None }
+        ensures { Gives (λ _. self.new) result (Ok (with_call self.old label what)) }
+    {
+        let number = self.script.commands.len();
+        self.add_named(alloc, label, what, Named::Call(number))
+    }
+
+    // Adds a `wait`.
+    pub(crate) fn add_wait(&mut self, target: Option<u32>) -> Result<(), HostFault>
+        ensures { Gives (λ _. self.new) result (Ok (with_wait self.old target)) }
+    {
+        self.script.commands.push(Command {
+            label: None,
+            what: What::Wait(target),
+        })?;
+        Ok(())
+    }
+
+    // Adds a command with its text.
+    fn add_with_text(
+        &mut self,
+        alloc: Global,
+        command: CommandWord,
+        number: u32,
+        words: &[u8],
+        text: Text,
+    ) -> Result<(), HostFault>
+        ensures { (taken : ℕ) → Gives (λ _. (self.new, taken)) result (with_text command number self.old words.now text taken) }
+    {
+        match text {
+            Text::Missing => self.add_command(alloc, command, number, words, None),
+            Text::Open => Err(at(number, HostKind::OpenText)),
+            Text::Given { text, bad } => {
+                self.add_command(alloc, command, number, words, Some(text))?;
+                check_lines(bad)
+            }
+        }
+    }
+
+    // Adds the command of a line, and reads the lines after it that belong to its text.
+    #[tactic(auto, unfolding(crate::specs::HostText::with_command))]
+    fn command(
+        &mut self,
+        alloc: Global,
+        command: CommandWord,
+        line: &[u8],
+        lines: &mut Lines<'_>,
+    ) -> Result<(), HostFault>
         requires within { lines.old.number + length lines.old.rest.now ≤ 4194304 }
 
-        ensures gives { Gives (λ _. (self.new.script, lines.new.number - lines.old.number)) result
-            (eval_line lines.old.number self.old.script words.now (lines_of lines.old.rest.now)) }
-        ensures noted { OnOk result (IsNoted self.new.names.keys self.new.script) }
+        ensures gives { Gives (λ _. (self.new, lines.new.number - lines.old.number)) result
+            (with_command command lines.old.number self.old line.now (lines_of lines.old.rest.now)) }
         ensures goes { OnOk result (Goes lines.old.number lines.old.rest.now lines.new.number lines.new.rest.now) }
     {
         let number = lines.number;
-        let (label, rest) = next_word(words);
-        let (context, rest) = next_word(rest);
-        let count = self.script.commands.len();
-        if count < 2 || count >= MOST_COMMANDS || !has_label(&self.script, 1, context) {
-            return Err(unknown(number));
+        let (_, rest) = next_word(line);
+        let (words, text) = read_text(alloc, command.can_have_text(), rest, lines)?;
+        if !is_utf8(line) {
+            return Err(at(number, HostKind::BadUtf8));
         }
-        let label = new_name(alloc, &mut self.names, label, number)?;
-        let text = read_text(alloc, skip_blanks(rest), lines)?;
-        self.script.commands.push(Command {
-            label: Some(label),
-            what: What::Eval {
-                context: 1,
-                budget: TICKS,
-                want: Want::Value,
-                text,
-            },
-        })?;
-        Ok(())
+        self.add_with_text(alloc, command, number, words, text)
     }
 
     // What a line adds, with the lines after it that belong to its text.
@@ -206,31 +217,23 @@ impl Draft {
         line: &[u8],
         lines: &mut Lines<'_>,
     ) -> Result<(), HostFault>
-        requires noted { IsNoted self.old.names.keys self.old.script }
         requires within { lines.old.number + length lines.old.rest.now ≤ 4194304 }
 
-        ensures gives { Gives (λ _. (self.new.script, lines.new.number - lines.old.number)) result
-            (with_line lines.old.number self.old.script line.now (lines_of lines.old.rest.now)) }
-        ensures noted { OnOk result (IsNoted self.new.names.keys self.new.script) }
+        ensures gives { Gives (λ _. (self.new, lines.new.number - lines.old.number)) result
+            (with_line lines.old.number self.old line.now (lines_of lines.old.rest.now)) }
         ensures goes { OnOk result (Goes lines.old.number lines.old.rest.now lines.new.number lines.new.rest.now) }
     {
         let number = lines.number;
-        if !is_text(line) {
-            return Err(unknown(number));
-        }
         if is_skipped(line) {
-            return Ok(());
+            return check_utf8(line, number);
         }
-        let (command, words) = next_word(line);
-        if command == b"isolate".as_slice() {
-            return self.isolate(alloc, words, number);
+        let (word, _) = next_word(line);
+        match command_of(word) {
+            Some(command) => self.command(alloc, command, line, lines),
+            None => {
+                check_utf8(line, number)?;
+                Err(at(number, HostKind::UnknownCommand))
+            }
         }
-        if command == b"context".as_slice() {
-            return self.context(alloc, words, number);
-        }
-        if command == b"eval".as_slice() {
-            return self.eval(alloc, words, lines);
-        }
-        Err(unknown(number))
     }
 }

@@ -5,15 +5,49 @@ use ivm_text::NoMemory;
 use std::alloc::{AllocError, AllocFailed};
 use thiserror::Error;
 
-/// What is wrong with a line.
+/// What is wrong with a line, in the order in which the kinds on one line are told.
 #[derive(Clone, Copy, Debug, Drop, PartialEq, Eq, Error)]
 pub enum HostKind {
-    /// The script has more than 4,194,304 bytes. It is told at line 0.
+    /// The script has more than 4,194,304 bytes, which is told at line 0; or the text of a command has
+    /// more than 65,536.
     #[error("TooLong")]
     TooLong,
-    /// The line isn't of the form that is wanted at its place.
+    /// The line isn't UTF-8. Bytes that only end inside a character are told at the last line.
+    #[error("BadUtf8")]
+    BadUtf8,
+    /// The first word isn't a command.
     #[error("UnknownCommand")]
     UnknownCommand,
+    /// A text begins with `<<W`, and no later line is equal to `W`.
+    #[error("OpenText")]
+    OpenText,
+    /// There are too few or too many words, a text is missing, or one isn't wanted.
+    #[error("BadWords")]
+    BadWords,
+    /// A new name hasn't the form of a name.
+    #[error("BadName")]
+    BadName,
+    /// An earlier line gave the new name.
+    #[error("NameTaken")]
+    NameTaken,
+    /// No earlier line gave the name that is used.
+    #[error("UnknownName")]
+    UnknownName,
+    /// The name that is used stands for a thing of another kind.
+    #[error("WrongKind")]
+    WrongKind,
+    /// The value of an option isn't a number in its range. No command has an option yet, so this never comes.
+    #[error("BadNumber")]
+    BadNumber,
+    /// The text of a `set` isn't one primitive literal.
+    #[error("BadLiteral")]
+    BadLiteral,
+    /// It is the 65th `isolate`.
+    #[error("TooManyIsolates")]
+    TooManyIsolates,
+    /// The limits of the isolates, together, pass 16,000,000 cells.
+    #[error("TotalCells")]
+    TotalCells,
 }
 
 /// Why bytes gave no host script.
@@ -60,12 +94,9 @@ impl From<NoMemory> for HostFault {
     }
 }
 
-// The line isn't of the form that is wanted at its place.
-pub(crate) fn unknown(line: u32) -> HostFault
-    ensures { result ≡ HostFault.At line HostKind.UnknownCommand }
+// This line has a fault of this kind.
+pub(crate) fn at(line: u32, kind: HostKind) -> HostFault
+    ensures { result ≡ HostFault.At line kind }
 {
-    HostFault::At {
-        line,
-        kind: HostKind::UnknownCommand,
-    }
+    HostFault::At { line, kind }
 }

@@ -1,5 +1,5 @@
 //! The lines of a script, one after the other.
-ghost use Rattle.std.specs.Prelude.{◌≡◌, ◌∷◌, [], ◌+◌, ◌<◌, ◌≤◌, ◌==◌, length, MatchOption, OnSome, position};
+ghost use Rattle.std.specs.Prelude.{◌≡◌, ◌∷◌, [], ◌+◌, ◌<◌, ◌≤◌, ◌==◌, length, MatchOption, IfNone, OnSome, position};
 ghost use Rattle.std.specs.Str.Lines.{strip_carriage_return};
 ghost use Rattle.host_script.specs.Words.{lines_of};
 
@@ -18,6 +18,7 @@ impl<'a> Lines<'a> {
         ensures line { MatchOption result (lines_of self.old.rest.now ≡ [])
             (λ line. lines_of self.old.rest.now ≡ line.now ∷ lines_of self.new.rest.now) }
         ensures number { OnSome result (self.new.number ≡ self.old.number + 1) }
+        ensures ended { IfNone result ((self.new.number ≡ self.old.number) × (self.new.rest.now ≡ self.old.rest.now)) }
         ensures shorter { OnSome result (length self.new.rest.now < length self.old.rest.now) }
     {
         if self.rest.is_empty() {

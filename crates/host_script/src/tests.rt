@@ -1,7 +1,7 @@
-//! What scripts say, worked out by hand: each rule at its edge.
+//! What scripts say, worked out by hand: each rule at its edge, and each kind of fault.
 
 use super::*;
-use ivm_text::Units;
+use ivm_text::{Leaf, Units};
 use std::alloc::Global;
 use std::test::Fail;
 
@@ -9,23 +9,47 @@ fn spell(alloc: Global, units: &Units) -> Result<String, Fail> {
     Ok(String::from_utf8(units.to_utf8(alloc)?)?)
 }
 
-// A label and what it stands for, as `c@0` for a context of isolate 0 and `x@1[text]` for an evaluation.
-fn describe_command(alloc: Global, command: &Command) -> Result<String, Fail> {
-    let label = match &command.label {
-        Some(label) => spell(alloc, label)?,
-        None => String::from_str(alloc, "-")?,
-    };
-    match &command.what {
-        What::Declare => Ok(label),
-        What::Context { isolate } => Ok(format!(in alloc; "{label}@{isolate}")?),
-        What::Eval { context, text, .. } => {
-            let text = String::from_utf8(text.as_slice().to_vec(alloc)?)?;
-            Ok(format!(in alloc; "{label}@{context}[{text}]")?)
-        }
+fn describe_leaf(alloc: Global, leaf: Leaf) -> Result<String, Fail> {
+    match leaf {
+        Leaf::Undefined => Ok(String::from_str(alloc, "undefined")?),
+        Leaf::Null => Ok(String::from_str(alloc, "null")?),
+        Leaf::Bool(true) => Ok(String::from_str(alloc, "true")?),
+        Leaf::Bool(false) => Ok(String::from_str(alloc, "false")?),
+        Leaf::Num(n) => Ok(format!(in alloc; "{n}")?),
+        Leaf::Node(n) => Ok(format!(in alloc; "node {n}")?),
     }
 }
 
-// The isolates, then the commands, each before a bar; or the fault.
+// What a command names and holds: `@0` a context of isolate 0, `@1[t]` the text t in the context of command 1,
+// `@1.k` a get and `@1.k=v` a set there, `!0` a disposal of isolate 0, `?` and `?4` a wait.
+fn describe_what(alloc: Global, what: &What) -> Result<String, Fail> {
+    match what {
+        What::Declare => Ok(String::new(alloc)),
+        What::Context { isolate } => Ok(format!(in alloc; "@{isolate}")?),
+        What::Eval { context, text, .. } => {
+            let text = String::from_utf8(text.as_slice().to_vec(alloc)?)?;
+            Ok(format!(in alloc; "@{context}[{text}]")?)
+        }
+        What::Get { target, key, .. } => {
+            let key = spell(alloc, key)?;
+            Ok(format!(in alloc; "@{target}.{key}")?)
+        }
+        What::Set {
+            target,
+            key,
+            value: HostArgument::Literal(copy),
+        } => {
+            let key = spell(alloc, key)?;
+            let leaf = describe_leaf(alloc, copy.root)?;
+            Ok(format!(in alloc; "@{target}.{key}={leaf}")?)
+        }
+        What::Dispose { isolate } => Ok(format!(in alloc; "!{isolate}")?),
+        What::Wait(None) => Ok(String::from_str(alloc, "?")?),
+        What::Wait(Some(target)) => Ok(format!(in alloc; "?{target}")?),
+    }
+}
+
+// The isolates, then the commands under their labels or `-`, each before a bar; or the fault.
 fn describe(alloc: Global, bytes: &[u8]) -> Result<String, Fail> {
     let script = match read_host(alloc, bytes) {
         Ok(script) => script,
@@ -37,99 +61,125 @@ fn describe(alloc: Global, bytes: &[u8]) -> Result<String, Fail> {
         said.push('|')?;
     }
     for command in script.commands.as_slice() {
-        said.push_str(&describe_command(alloc, command)?)?;
+        match &command.label {
+            Some(label) => said.push_str(&spell(alloc, label)?)?,
+            None => said.push('-')?,
+        }
+        said.push_str(&describe_what(alloc, &command.what)?)?;
         said.push('|')?;
     }
     Ok(said)
 }
 
-#[test]
-fn lines_words_and_names(rt: HostRuntime) -> Result<(), Fail> {
-    let alloc = rt.alloc();
-    let rows: [(&[u8], &str); 15] = [
-        (b"", ""),
-        (b"\n \t\n # x\n\t#", ""),
-        (b"isolate a", "a|-|"),
-        (b"  isolate\ta \r\n", "a|-|"),
-        (b"\nisolate", "line 2: UnknownCommand"),
-        (b"isolate a b", "line 1: UnknownCommand"),
-        (b"isolate 1a", "line 1: UnknownCommand"),
-        (b"isolate a_1B", "a_1B|-|"),
-        (b"isolate a-b", "line 1: UnknownCommand"),
-        (
-            b"isolate a23456789_123456789_123456789_12",
-            "a23456789_123456789_123456789_12|-|",
-        ),
-        (
-            b"isolate a23456789_123456789_123456789_123",
-            "line 1: UnknownCommand",
-        ),
-        (b"isolate a\r", "line 1: UnknownCommand"),
-        (b"\r", "line 1: UnknownCommand"),
-        (b"# \xc3", "line 1: UnknownCommand"),
-        (b"# \xc3\xa9\n", ""),
-    ];
-    for (bytes, wanted) in &rows {
-        let said = describe(alloc, bytes)?;
-        assert_eq!(rt; said.as_str(), *wanted);
-    }
-    Ok(())
-}
-
-#[test]
-fn commands_at_their_places(rt: HostRuntime) -> Result<(), Fail> {
-    let alloc = rt.alloc();
-    let rows: [(&[u8], &str); 12] = [
-        (b"isolate a\n#\ncontext c a", "a|-|c@0|"),
-        (b"isolate a\nisolate b", "line 2: UnknownCommand"),
-        (b"context c a", "line 1: UnknownCommand"),
-        (b"isolate a\ncontext c b", "line 2: UnknownCommand"),
-        (b"isolate a\ncontext a a", "line 2: UnknownCommand"),
-        (b"isolate a\ncontext c a x", "line 2: UnknownCommand"),
-        (
-            b"isolate a\ncontext c a\n\ncontext d a",
-            "line 4: UnknownCommand",
-        ),
-        (b"isolate a\neval x a : 1", "line 2: UnknownCommand"),
-        (
-            b"isolate a\ncontext c a\neval x c : 1\neval y c : 2",
-            "a|-|c@0|x@1[1]|y@1[2]|",
-        ),
-        (
-            b"isolate a\ncontext c a\neval x c : 1\neval x c : 2",
-            "line 4: UnknownCommand",
-        ),
-        (
-            b"isolate a\ncontext c a\neval x c : 1\neval y x : 2",
-            "line 4: UnknownCommand",
-        ),
-        (
-            b"isolate a\ncontext c a\nget g c k",
-            "line 3: UnknownCommand",
-        ),
-    ];
-    for (bytes, wanted) in &rows {
-        let said = describe(alloc, bytes)?;
-        assert_eq!(rt; said.as_str(), *wanted);
-    }
-    Ok(())
-}
-
-// What the lines behind an isolate and a context say.
-fn describe_eval(alloc: Global, lines: &[u8]) -> Result<String, Fail> {
+// What these lines say behind an isolate `a` and a context `c` of it, so that they begin with line 3.
+fn describe_more(alloc: Global, lines: &[u8]) -> Result<String, Fail> {
     let mut bytes = b"isolate a\ncontext c a\n".to_vec(alloc)?;
     bytes.extend_from_slice(lines)?;
     describe(alloc, &bytes)
 }
 
 #[test]
+fn lines_and_names(rt: HostRuntime) -> Result<(), Fail> {
+    let alloc = rt.alloc();
+    let rows: [(&[u8], &str); 24] = [
+        (b"", ""),
+        (b"\n \t\n # x\n\t#", ""),
+        (b"isolate a", "a|-|"),
+        (b"  isolate\ta \r\n", "a|-|"),
+        (b"isolate a\r\n\r\ncontext c a\r\n", "a|-|c@0|"),
+        (b"\nisolate", "line 2: BadWords"),
+        (b"isolate a b", "line 1: BadWords"),
+        (b"isolate a limit=1000", "line 1: BadWords"),
+        (b"isolate limit=1000", "line 1: BadName"),
+        (b"isolate 1a", "line 1: BadName"),
+        (b"isolate _a", "line 1: BadName"),
+        (b"isolate a_1B", "a_1B|-|"),
+        (b"isolate a-b", "line 1: BadName"),
+        (
+            b"isolate a23456789_123456789_123456789_12",
+            "a23456789_123456789_123456789_12|-|",
+        ),
+        (
+            b"isolate a23456789_123456789_123456789_123",
+            "line 1: BadName",
+        ),
+        (b"isolate a\r", "line 1: BadName"),
+        (b"\r", "line 1: UnknownCommand"),
+        (b"# \xff\nisolate a", "line 1: BadUtf8"),
+        (b"# \xc3\xa9\n", ""),
+        (b"isolate a\n#\n# x\xc3", "line 3: BadUtf8"),
+        (b"isolate a\nisolate b\xe2\x82", "line 2: BadUtf8"),
+        (b"isolate a\n\xc3\n\n", "line 2: BadUtf8"),
+        (b"isolate a\n# \xc3\r\n", "line 2: BadUtf8"),
+        (b"isolate\nisolate a\xff", "line 1: BadWords"),
+    ];
+    for (bytes, wanted) in &rows {
+        let said = describe(alloc, bytes)?;
+        assert_eq!(rt; said.as_str(), *wanted);
+    }
+    Ok(())
+}
+
+#[test]
+fn commands(rt: HostRuntime) -> Result<(), Fail> {
+    let alloc = rt.alloc();
+    let rows: [(&[u8], &str); 4] = [
+        (
+            b"isolate a\nisolate b\ncontext c a\ncontext d b\neval x c : 1\nset s d k : 5\nget g d k\nwait x\ndispose z b\nwait\n",
+            "a|b|-|-|c@0|d@1|x@2[1]|s@3.k=5|g@3.k|-?4|z!1|-?|",
+        ),
+        (
+            b"isolate a\ncontext c a\nisolate b\nwait c\ncontext d a\neval x d :",
+            "a|b|-|c@0|-|-?1|d@0|x@4[]|",
+        ),
+        (b"wait\nisolate a\nwait", "a|-?|-|-?|"),
+        (
+            b"isolate a\ndispose d a\ncontext c a\nwait d",
+            "a|-|d!0|c@0|-?1|",
+        ),
+    ];
+    for (bytes, wanted) in &rows {
+        let said = describe(alloc, bytes)?;
+        assert_eq!(rt; said.as_str(), *wanted);
+    }
+    Ok(())
+}
+
+#[test]
+fn words_that_are_read_by_place(rt: HostRuntime) -> Result<(), Fail> {
+    let alloc = rt.alloc();
+    let rows: [(&[u8], &str); 14] = [
+        (b"get g c k", "a|-|c@0|g@1.k|"),
+        (b"get g c :k", "a|-|c@0|g@1.:k|"),
+        (b"get g c :\t", "a|-|c@0|g@1.:|"),
+        (b"get g c <<E", "a|-|c@0|g@1.<<E|"),
+        (b"get g c <<", "a|-|c@0|g@1.<<|"),
+        (b"get g c timeout=1", "a|-|c@0|g@1.timeout=1|"),
+        (b"get g c \xc3\xa9", "a|-|c@0|g@1.\u{e9}|"),
+        (b"get g c a", "a|-|c@0|g@1.a|"),
+        (b"get g\tc\tk\t\r\n", "a|-|c@0|g@1.k|"),
+        (b"set s c :x : 1", "a|-|c@0|s@1.:x=1|"),
+        (b"set s c <<E : 1", "a|-|c@0|s@1.<<E=1|"),
+        (b"set timeout=1 c k : 1", "line 3: BadName"),
+        (b"eval x timeout=1 : 1", "line 3: UnknownName"),
+        (b"wait <<E\nE", "line 3: UnknownName"),
+    ];
+    for (lines, wanted) in &rows {
+        let said = describe_more(alloc, lines)?;
+        assert_eq!(rt; said.as_str(), *wanted);
+    }
+    Ok(())
+}
+
+#[test]
 fn texts(rt: HostRuntime) -> Result<(), Fail> {
     let alloc = rt.alloc();
-    let rows: [(&[u8], &str); 12] = [
+    let rows: [(&[u8], &str); 13] = [
         (b"eval x c :", "a|-|c@0|x@1[]|"),
         (b"eval x c : ", "a|-|c@0|x@1[]|"),
         (b"eval x c \t:  1 ", "a|-|c@0|x@1[ 1 ]|"),
         (b"eval x c : <<E", "a|-|c@0|x@1[<<E]|"),
+        (b"eval x c : : 1", "a|-|c@0|x@1[: 1]|"),
         (b"eval x c : 1\r\n", "a|-|c@0|x@1[1]|"),
         (b"eval x c : 1\r", "a|-|c@0|x@1[1\r]|"),
         (b"eval x c : \xc3\xa9", "a|-|c@0|x@1[\u{e9}]|"),
@@ -143,77 +193,397 @@ fn texts(rt: HostRuntime) -> Result<(), Fail> {
         (b"eval x c <<:\n:\n", "a|-|c@0|x@1[]|"),
     ];
     for (lines, wanted) in &rows {
-        let said = describe_eval(alloc, lines)?;
+        let said = describe_more(alloc, lines)?;
         assert_eq!(rt; said.as_str(), *wanted);
     }
     Ok(())
 }
 
 #[test]
-fn texts_with_a_fault(rt: HostRuntime) -> Result<(), Fail> {
+fn unknown_commands_and_open_texts(rt: HostRuntime) -> Result<(), Fail> {
     let alloc = rt.alloc();
-    let rows: [(&[u8], &str); 13] = [
-        (b"eval x c", "line 3: UnknownCommand"),
-        (b"eval x c :1", "line 3: UnknownCommand"),
-        (b"eval x c :\t1", "line 3: UnknownCommand"),
-        (b"eval x c 1 : 1", "line 3: UnknownCommand"),
-        (b"eval x c : \xff", "line 3: UnknownCommand"),
-        (b"eval x c <<\n<<", "line 3: UnknownCommand"),
-        (b"eval x c <<E 1\nE", "line 3: UnknownCommand"),
-        (b"eval x c <<E\n1", "line 3: UnknownCommand"),
-        (b"eval x c <<E\n1\nE\r", "line 3: UnknownCommand"),
-        (b"eval x c <<E\n\xff", "line 3: UnknownCommand"),
-        (b"eval x y <<E\n\xff\nE", "line 3: UnknownCommand"),
-        (b"eval x c <<E\n1\n\xff\n\xff\nE", "line 5: UnknownCommand"),
-        (b"eval x c <<E\n1\nE\n\xff", "line 6: UnknownCommand"),
+    let rows: [(&[u8], &str); 12] = [
+        (b"nothing", "line 3: UnknownCommand"),
+        (b"Isolate b", "line 3: UnknownCommand"),
+        (b"isolates b", "line 3: UnknownCommand"),
+        (b"run r s c", "line 3: UnknownCommand"),
+        (b": 1", "line 3: UnknownCommand"),
+        (b"eval: 1", "line 3: UnknownCommand"),
+        (b"nothing x <<E", "line 3: UnknownCommand"),
+        (b"eval x c <<E\n1\n", "line 3: OpenText"),
+        (b"eval x c <<E\n1\nE\r", "line 3: OpenText"),
+        (b"eval x c <<E\n E\nE ", "line 3: OpenText"),
+        (b"set s c k <<E", "line 3: OpenText"),
+        (b"eval <<E", "line 3: OpenText"),
     ];
     for (lines, wanted) in &rows {
-        let said = describe_eval(alloc, lines)?;
+        let said = describe_more(alloc, lines)?;
         assert_eq!(rt; said.as_str(), *wanted);
     }
     Ok(())
 }
 
-// This many of a byte, behind a front.
-fn filled(alloc: Global, front: &[u8], byte: u8, count: usize) -> Result<Vec<u8>, Fail> {
+#[test]
+fn wrong_words(rt: HostRuntime) -> Result<(), Fail> {
+    let alloc = rt.alloc();
+    let rows: [&[u8]; 32] = [
+        b"isolate b : 1",
+        b"isolate :",
+        b"context d",
+        b"context d a b",
+        b"context d a :",
+        b"eval",
+        b"eval x c",
+        b"eval x : 1",
+        b"eval x c y : 1",
+        b"eval x c :1",
+        b"eval x c :\t1",
+        b"eval x c <<",
+        b"eval x <<",
+        b"eval x c << : 1",
+        b"eval x c <<E : 1\nE",
+        b"eval x c timeout=5 : 1",
+        b"eval : x c : 1",
+        b"get g c",
+        b"get g c k l",
+        b"get g c k m n",
+        b"get g c k : 1",
+        b"get g c :",
+        b"get g c : k",
+        b"set s c k",
+        b"set s c : 1",
+        b"set s c k l : 1",
+        b"set s c k l <<E\n1\nE",
+        b"dispose d",
+        b"dispose d a b",
+        b"dispose d a : 1",
+        b"wait c c",
+        b"wait :",
+    ];
+    for lines in &rows {
+        let said = describe_more(alloc, lines)?;
+        assert_eq!(rt; said.as_str(), "line 3: BadWords");
+    }
+    Ok(())
+}
+
+#[test]
+fn wrong_names(rt: HostRuntime) -> Result<(), Fail> {
+    let alloc = rt.alloc();
+    let rows: [(&[u8], &str); 35] = [
+        (b"context 1 a", "line 3: BadName"),
+        (b"eval x-y c : 1", "line 3: BadName"),
+        (b"get \xc3\xa9 c k", "line 3: BadName"),
+        (b"dispose d.e a", "line 3: BadName"),
+        (b"isolate a", "line 3: NameTaken"),
+        (b"isolate c", "line 3: NameTaken"),
+        (b"context a a", "line 3: NameTaken"),
+        (b"context c a", "line 3: NameTaken"),
+        (b"eval c c : 1", "line 3: NameTaken"),
+        (b"get a c k", "line 3: NameTaken"),
+        (b"set c c k : 1", "line 3: NameTaken"),
+        (b"dispose c a", "line 3: NameTaken"),
+        (b"eval x c : 1\n\neval x c : 1", "line 5: NameTaken"),
+        (b"eval x c <<E\nE\nisolate x", "line 5: NameTaken"),
+        (b"context d b", "line 3: UnknownName"),
+        (b"context d d", "line 3: UnknownName"),
+        (b"eval x y : 1", "line 3: UnknownName"),
+        (b"eval x x : 1", "line 3: UnknownName"),
+        (b"get g y k", "line 3: UnknownName"),
+        (b"set s y k : 1", "line 3: UnknownName"),
+        (b"dispose d d", "line 3: UnknownName"),
+        (b"dispose d 1", "line 3: UnknownName"),
+        (b"wait x\neval x c : 1", "line 3: UnknownName"),
+        (b"context d b\nisolate b", "line 3: UnknownName"),
+        (b"context d c", "line 3: WrongKind"),
+        (b"eval x a : 1", "line 3: WrongKind"),
+        (b"get g a k", "line 3: WrongKind"),
+        (b"set s a k : 1", "line 3: WrongKind"),
+        (b"dispose d c", "line 3: WrongKind"),
+        (b"wait a", "line 3: WrongKind"),
+        (b"eval x c : 1\neval y x : 1", "line 4: WrongKind"),
+        (b"eval x c : 1\nget y x k", "line 4: WrongKind"),
+        (b"eval x c : 1\nset y x k : 1", "line 4: WrongKind"),
+        (b"eval x c : 1\ncontext y x", "line 4: WrongKind"),
+        (b"eval x c : 1\ndispose y x", "line 4: WrongKind"),
+    ];
+    for (lines, wanted) in &rows {
+        let said = describe_more(alloc, lines)?;
+        assert_eq!(rt; said.as_str(), *wanted);
+    }
+    Ok(())
+}
+
+#[test]
+fn two_kinds_on_one_line(rt: HostRuntime) -> Result<(), Fail> {
+    let alloc = rt.alloc();
+    let rows: [(&[u8], &str); 17] = [
+        (b"nothing \xff", "line 3: BadUtf8"),
+        (b"eval x c : \xff", "line 3: BadUtf8"),
+        (b"eval x c y : \xff", "line 3: BadUtf8"),
+        (b"eval \xff c : 1", "line 3: BadUtf8"),
+        (b"get g c \xff", "line 3: BadUtf8"),
+        (b"eval \xff <<E", "line 3: BadUtf8"),
+        (b"eval x c <<\xff\n\xff\n", "line 3: BadUtf8"),
+        (b"eval 1x d e <<E", "line 3: OpenText"),
+        (b"eval 1x d e : 1", "line 3: BadWords"),
+        (b"eval 1x d : 1", "line 3: BadName"),
+        (b"eval c d : 1", "line 3: NameTaken"),
+        (b"eval c a : 1", "line 3: NameTaken"),
+        (b"set 1s c k : x", "line 3: BadName"),
+        (b"set c c k : x", "line 3: NameTaken"),
+        (b"set s d k : x", "line 3: UnknownName"),
+        (b"set s a k : x", "line 3: WrongKind"),
+        (b"set s c k : x", "line 3: BadLiteral"),
+    ];
+    for (lines, wanted) in &rows {
+        let said = describe_more(alloc, lines)?;
+        assert_eq!(rt; said.as_str(), *wanted);
+    }
+    Ok(())
+}
+
+#[test]
+fn faults_on_two_lines(rt: HostRuntime) -> Result<(), Fail> {
+    let alloc = rt.alloc();
+    let rows: [(&[u8], &str); 13] = [
+        (b"get g d k\nnothing", "line 3: UnknownName"),
+        (b"nothing\nget g d k", "line 3: UnknownCommand"),
+        (b"get g c k\n\xff\nnothing", "line 4: BadUtf8"),
+        (b"eval x c <<E\n\xff\nE", "line 4: BadUtf8"),
+        (b"eval x d <<E\n\xff\nE", "line 3: UnknownName"),
+        (b"set s c k <<E\nx\n\xff\nE", "line 3: BadLiteral"),
+        (b"set s c k <<E\n1\xff\nE", "line 3: BadLiteral"),
+        (b"eval x c <<E\n\xff", "line 3: OpenText"),
+        (b"eval x c <<E\nnothing\nget g d k", "line 3: OpenText"),
+        (
+            b"eval x c <<E\n1\n\xff\n\xff\nE\nnothing",
+            "line 5: BadUtf8",
+        ),
+        (b"eval x c <<E\n1\nE\n\xff", "line 6: BadUtf8"),
+        (
+            b"eval x c <<E\n1\nE\nnothing\n\xff",
+            "line 6: UnknownCommand",
+        ),
+        (
+            b"eval x c <<E\n1\nE\neval y c <<E\n\xe2\x82\nE\n",
+            "line 7: BadUtf8",
+        ),
+    ];
+    for (lines, wanted) in &rows {
+        let said = describe_more(alloc, lines)?;
+        assert_eq!(rt; said.as_str(), *wanted);
+    }
+    Ok(())
+}
+
+// What a `set` to this text says, from its value on.
+fn describe_set(alloc: Global, text: &[u8]) -> Result<String, Fail> {
+    let mut lines = b"set s c k :".to_vec(alloc)?;
+    lines.extend_from_slice(text)?;
+    describe_more(alloc, &lines)
+}
+
+#[test]
+fn literals(rt: HostRuntime) -> Result<(), Fail> {
+    let alloc = rt.alloc();
+    let rows: [(&[u8], &str); 15] = [
+        (b" undefined", "undefined"),
+        (b" null", "null"),
+        (b" true", "true"),
+        (b"  false  ", "false"),
+        (b" 0", "0"),
+        (b" 7", "7"),
+        (b" 10", "10"),
+        (b"   120 ", "120"),
+        (b" 9007199254740991", "9007199254740991"),
+        (b" 1234567890123456", "1234567890123456"),
+        (b" -1", "-1"),
+        (b" - 5", "-5"),
+        (b"  -   50  ", "-50"),
+        (b" -9007199254740991", "-9007199254740991"),
+        (b" 3\r\n", "3"),
+    ];
+    for (text, leaf) in &rows {
+        let said = describe_set(alloc, text)?;
+        let wanted = format!(in alloc; "a|-|c@0|s@1.k={leaf}|")?;
+        assert_eq!(rt; said.as_str(), wanted.as_str());
+    }
+    let long = describe_more(alloc, b"set s c k <<E\n 5\nE")?;
+    assert_eq!(rt; long.as_str(), "a|-|c@0|s@1.k=5|");
+    Ok(())
+}
+
+#[test]
+fn no_literals(rt: HostRuntime) -> Result<(), Fail> {
+    let alloc = rt.alloc();
+    let rows: [&[u8]; 31] = [
+        b"",
+        b" ",
+        b"   ",
+        b" 00",
+        b" 01",
+        b" -0",
+        b" - 0",
+        b" -01",
+        b" 9007199254740992",
+        b" -9007199254740992",
+        b" 10000000000000000",
+        b" 99999999999999999999999",
+        b" 1.5",
+        b" 1e3",
+        b" 0x1",
+        b" +1",
+        b" --1",
+        b" -",
+        b" - ",
+        b" 1 2",
+        b" 1 -",
+        b" true false",
+        b" -true",
+        b" - undefined",
+        b" True",
+        b" nul",
+        b" nulls",
+        b" \t1",
+        b" 1\t",
+        b" 1\r",
+        b" \"1\"",
+    ];
+    for text in &rows {
+        let said = describe_set(alloc, text)?;
+        assert_eq!(rt; said.as_str(), "line 3: BadLiteral");
+    }
+    let lines: [&[u8]; 3] = [
+        b"set s c k <<E\nE",
+        b"set s c k <<E\n5\n\nE",
+        b"set s c k <<E\n\n5\nE",
+    ];
+    for text in &lines {
+        let said = describe_more(alloc, text)?;
+        assert_eq!(rt; said.as_str(), "line 3: BadLiteral");
+    }
+    Ok(())
+}
+
+// This many of a byte, between a front and an end.
+fn filled(alloc: Global, front: &[u8], count: usize, end: &[u8]) -> Result<Vec<u8>, Fail> {
     let mut bytes = front.to_vec(alloc)?;
     for _ in 0..count {
-        bytes.push(byte)?;
+        bytes.push(b' ')?;
     }
+    bytes.extend_from_slice(end)?;
     Ok(bytes)
 }
 
+// The fault of such lines behind an isolate and a context, or that there is none.
+fn fault_of(alloc: Global, front: &[u8], count: usize, end: &[u8]) -> Result<String, Fail> {
+    let mut bytes = b"isolate a\ncontext c a\n".to_vec(alloc)?;
+    bytes.extend_from_slice(&filled(alloc, front, count, end)?)?;
+    match read_host(alloc, &bytes) {
+        Ok(_) => Ok(String::from_str(alloc, "none")?),
+        Err(fault) => Ok(format!(in alloc; "{fault}")?),
+    }
+}
+
 #[test]
-fn lengths(rt: HostRuntime) -> Result<(), Fail> {
+fn texts_that_are_too_long(rt: HostRuntime) -> Result<(), Fail> {
     let alloc = rt.alloc();
-    let front = b"isolate a\ncontext c a\neval x c : ".as_slice();
-    let fits = read_host(alloc, &filled(alloc, front, b'1', 65_536)?);
-    assert_eq!(rt; fits.is_ok(), true);
-    let over = describe(alloc, &filled(alloc, front, b'1', 65_537)?)?;
-    assert_eq!(rt; over.as_str(), "line 3: UnknownCommand");
-    let whole = describe(alloc, &filled(alloc, b"", b' ', 4_194_304)?)?;
-    assert_eq!(rt; whole.as_str(), "");
-    let longer = describe(alloc, &filled(alloc, b"", b' ', 4_194_305)?)?;
-    assert_eq!(rt; longer.as_str(), "line 0: TooLong");
+    let rows: [(&[u8], usize, &[u8], &str); 19] = [
+        (b"eval x c : ", 65_536, b"", "none"),
+        (b"eval x c : ", 65_537, b"", "line 3: TooLong"),
+        (b"eval x c : ", 65_537, b"\xff", "line 3: TooLong"),
+        (b"eval x c : ", 65_535, b"\xff", "line 3: BadUtf8"),
+        (b"eval 1 d e : ", 65_537, b"", "line 3: TooLong"),
+        (b"get g c k : ", 65_537, b"", "line 3: TooLong"),
+        (b"get g c k : ", 65_536, b"", "line 3: BadWords"),
+        (b"wait : ", 65_537, b"", "line 3: TooLong"),
+        (b"nothing : ", 65_537, b"", "line 3: UnknownCommand"),
+        (b"set s c k : 1", 65_535, b"", "none"),
+        (b"set s c k : 1", 65_536, b"", "line 3: TooLong"),
+        (b"eval x c <<E\n", 65_536, b"\nE", "none"),
+        (b"eval x c <<E\n", 65_537, b"\nE", "line 3: TooLong"),
+        (b"eval x c <<E\n1\n", 65_534, b"\nE", "none"),
+        (b"eval x c <<E\n1\n", 65_535, b"\nE", "line 3: TooLong"),
+        (b"eval \xff c <<E\n", 65_537, b"\nE", "line 3: TooLong"),
+        (
+            b"eval x c <<E\n\xff\n",
+            65_537,
+            b"\n1\nE",
+            "line 3: TooLong",
+        ),
+        (b"eval x c <<E\n", 65_537, b"\n1\n", "line 3: OpenText"),
+        (
+            b"get g c <<E\n",
+            65_537,
+            b"\nnothing",
+            "line 5: UnknownCommand",
+        ),
+    ];
+    for (front, count, end, wanted) in &rows {
+        let said = fault_of(alloc, front, *count, end)?;
+        assert_eq!(rt; said.as_str(), *wanted);
+    }
     Ok(())
 }
 
-// A script of this many evaluations, under labels of one letter and digits.
-fn evaluations(alloc: Global, count: u32) -> Result<Vec<u8>, Fail> {
-    let mut bytes = b"isolate a\ncontext c a\n".to_vec(alloc)?;
+#[test]
+fn scripts_that_are_too_long(rt: HostRuntime) -> Result<(), Fail> {
+    let alloc = rt.alloc();
+    let whole = describe(alloc, &filled(alloc, b"", 4_194_304, b"")?)?;
+    assert_eq!(rt; whole.as_str(), "");
+    let longer = describe(alloc, &filled(alloc, b"", 4_194_305, b"")?)?;
+    assert_eq!(rt; longer.as_str(), "line 0: TooLong");
+    let first = describe(alloc, &filled(alloc, b"nothing\n", 4_194_300, b"\xff")?)?;
+    assert_eq!(rt; first.as_str(), "line 0: TooLong");
+    Ok(())
+}
+
+// A script of this many isolates.
+fn isolates(alloc: Global, count: u32) -> Result<Vec<u8>, Fail> {
+    let mut bytes = Vec::new(alloc);
     for number in 0..count {
-        let line = format!(in alloc; "eval x{number} c : 1\n")?;
+        let line = format!(in alloc; "isolate i{number}\n")?;
         bytes.extend_from_slice(line.as_bytes())?;
     }
     Ok(bytes)
 }
 
 #[test]
-fn a_thousand_evaluations(rt: HostRuntime) -> Result<(), Fail> {
+fn many_isolates(rt: HostRuntime) -> Result<(), Fail> {
     let alloc = rt.alloc();
-    let script = read_host(alloc, &evaluations(alloc, 1_000)?)?;
-    assert_eq!(rt; script.commands.len(), 1_002);
-    let more = describe(alloc, &evaluations(alloc, 1_001)?)?;
-    assert_eq!(rt; more.as_str(), "line 1003: UnknownCommand");
+    let script = read_host(alloc, &isolates(alloc, 16)?)?;
+    assert_eq!(rt; script.isolates.len(), 16);
+    for count in [17, 64, 65] {
+        let more = describe(alloc, &isolates(alloc, count)?)?;
+        assert_eq!(rt; more.as_str(), "line 17: TotalCells");
+    }
+    let mut bytes = isolates(alloc, 16)?;
+    bytes.extend_from_slice(b"isolate i3\n")?;
+    let taken = describe(alloc, &bytes)?;
+    assert_eq!(rt; taken.as_str(), "line 17: NameTaken");
+    Ok(())
+}
+
+#[test]
+fn many_commands(rt: HostRuntime) -> Result<(), Fail> {
+    let alloc = rt.alloc();
+    let mut bytes = b"isolate a\ncontext c a\n".to_vec(alloc)?;
+    for number in 0..3_000u32 {
+        let line = format!(in alloc; "eval x{number} c : 1\nwait x{number}\n")?;
+        bytes.extend_from_slice(line.as_bytes())?;
+    }
+    let script = read_host(alloc, &bytes)?;
+    assert_eq!(rt; script.commands.len(), 6_002);
+    let last = script.commands.get(6_001);
+    assert!(rt;
+        matches!(
+            last,
+            Some(Command {
+                what: What::Wait(Some(6_000)),
+                ..
+            })
+        )
+    );
     Ok(())
 }

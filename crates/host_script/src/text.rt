@@ -1,49 +1,35 @@
-//! The text at the end of a command, on its line or on the lines after it.
-ghost use Rattle.std.specs.Prelude.{◌≡◌, ℕ, ◌+◌, ◌-◌, ◌≤◌, List, length, Some, None, IfOk, OnOk, if◌then◌else◌};
-ghost use Rattle.std.specs.Option.{option_copied, option_or};
+//! The text at the end of a command, and the words in front of it.
+ghost use Rattle.std.specs.Prelude.{◌≡◌, ℕ, ◌+◌, ◌-◌, ◌≤◌, false, length, drop, None, Some, IfNone, IfSome, IfOk, OnOk, MatchOption};
 ghost use Rattle.std.specs.Str.{is_utf8};
 ghost use Rattle.host_script.specs.Words.{lines_of};
-ghost use Rattle.host_script.specs.Texts.{text_here, end_word, text_of};
+ghost use Rattle.host_script.specs.Texts.{begins_text, text_place, text_here, end_word, text_of};
 ghost use Rattle.host_script.specs.Faults.{Gives};
-ghost use Rattle.host_script.specs.Steps.{appended, Goes, text_until};
+ghost use Rattle.host_script.specs.Steps.{Goes};
 
-use crate::HostFault;
-use crate::fault::unknown;
+use crate::fault::at;
 use crate::lines::Lines;
-use crate::words::{is_end, next_word};
+use crate::long_text::long_text;
+use crate::words::{is_blank, split_last_word};
+use crate::{HostFault, HostKind};
 use item_list::Items;
 use ivm_text::Bytes;
-use std::alloc::{AllocError, Global};
+use std::alloc::Global;
 
-const MOST_TEXT: usize = 65_536;
+pub(crate) const MOST_TEXT: usize = 65_536;
 
-// The text on the line itself: behind `:` and one space, or none behind `:` at the end.
-fn text_here(rest: &[u8]) -> Option<&[u8]>
-    ensures { option_copied result ≡ text_here rest.now }
-{
-    if rest == b":".as_slice() {
-        return Some(&[]);
-    }
-    if rest.starts_with(b": ") {
-        return Some(&rest[2..]);
-    }
-    None
-}
-
-// The word after `<<`, at the line's end, that ends a text on the lines after it.
-fn end_word(rest: &[u8]) -> Option<&[u8]>
-    ensures { option_copied result ≡ end_word rest.now }
-{
-    let (word, after) = next_word(rest);
-    if rest.starts_with(b"<<") && word.len() > 2 && is_end(after) {
-        return Some(&word[2..]);
-    }
-    None
+// What a command has at its end.
+#[derive(Debug, Drop)]
+pub(crate) enum Text {
+    Missing,
+    // No later line ends it.
+    Open,
+    // With the number of its first line that isn't UTF-8.
+    Given { text: Bytes, bad: Option<u32> },
 }
 
 // Whether bytes are UTF-8.
 #[tactic(auto, using(crate::proofs::NameLemmas::utf8_yes, crate::proofs::NameLemmas::utf8_no))]
-pub(crate) fn is_text(bytes: &[u8]) -> bool
+pub(crate) fn is_utf8(bytes: &[u8]) -> bool
     ensures { result ≡ is_utf8 bytes.now }
 {
     match std::str::from_utf8(bytes) {
@@ -52,76 +38,86 @@ pub(crate) fn is_text(bytes: &[u8]) -> bool
     }
 }
 
-// The number of the first line that isn't UTF-8: the one found before, else this one.
-fn first_bad(found: Option<u32>, line: &[u8], number: u32) -> Option<u32>
-    ensures { result ≡ option_or found (if is_utf8 line.now then None else Some number) }
+// A `:` that one space or the line's end follows.
+fn begins_text(bytes: &[u8]) -> bool
+    ensures { result ≡ begins_text bytes.now }
 {
-    if found.is_some() || is_text(line) {
-        return found;
-    }
-    Some(number)
+    bytes == b":".as_slice() || bytes.starts_with(b": ")
 }
 
-// Appends a line, behind an LF where it isn't the first.
-fn append_line(text: &mut Vec<u8>, line: &[u8], is_first: bool) -> Result<(), AllocError>
-    ensures { IfOk result (λ _. text.new.items ≡ appended is_first text.old.items line.now) }
+// The place of the word `:` that begins a text, else the length.
+fn text_place(rest: &[u8]) -> usize
+    ensures place { result ≡ text_place false rest.now }
+    ensures within { result ≤ length rest.now }
 {
-    if !is_first {
-        text.push(b'\n')?;
-    }
-    text.extend_from_slice(line)
-}
-
-// The lines up to the one that is the word, joined by LF.
-fn long_text(alloc: Global, word: &[u8], lines: &mut Lines<'_>) -> Result<Bytes, HostFault>
-    requires { lines.old.number + length lines.old.rest.now ≤ 4194304 }
-
-    ensures gives { Gives (λ text. (text, lines.new.number - lines.old.number)) result
-        (text_until lines.old.number word.now (lines_of lines.old.rest.now)) }
-    ensures goes { OnOk result (Goes lines.old.number lines.old.rest.now lines.new.number lines.new.rest.now) }
-    ensures short { IfOk result (λ text. length text ≤ 65536) }
-{
-    let command = lines.number;
-    let mut text = Vec::new(alloc);
-    let mut bad = None;
-    while let Some(line) = lines.next() {
-        if line == word {
-            return match bad {
-                None => Ok(Items::from_vec(text)),
-                Some(number) => Err(unknown(number)),
-            };
+    let mut behind_blank = false;
+    for place in 0..rest.len() {
+        if behind_blank && begins_text(&rest[place..]) {
+            return place;
         }
-        append_line(&mut text, line, lines.number == command + 1)?;
-        if text.len() > MOST_TEXT {
-            return Err(unknown(command));
-        }
-        bad = first_bad(bad, line, lines.number);
+        behind_blank = is_blank(rest[place]);
     }
-    Err(unknown(command))
+    rest.len()
 }
 
-// The text that begins behind a command's words, and where it ends.
-pub(crate) fn read_text(
+// The bytes without the first two.
+fn without_two(bytes: &[u8]) -> &[u8]
+    ensures { result.now ≡ drop 2 bytes.now }
+{
+    if bytes.len() < 2 {
+        return &[];
+    }
+    &bytes[2..]
+}
+
+// The words before a text on the line, and the text.
+fn text_here(rest: &[u8]) -> Option<(&[u8], &[u8])>
+    ensures { MatchOption result (text_here rest.now ≡ None) (λ here. text_here rest.now ≡ Some (here.0.now, here.1.now)) }
+{
+    let place = text_place(rest);
+    if place == rest.len() {
+        return None;
+    }
+    let (words, text) = rest.split_at(place);
+    Some((words, without_two(text)))
+}
+
+// The words before `<<W` at the line's end, and the W.
+fn end_word(rest: &[u8]) -> Option<(&[u8], &[u8])>
+    ensures { MatchOption result (end_word rest.now ≡ None) (λ front. end_word rest.now ≡ Some (front.0.now, front.1.now)) }
+{
+    let (words, last) = split_last_word(rest);
+    if !last.starts_with(b"<<") || last.len() <= 2 {
+        return None;
+    }
+    Some((words, &last[2..]))
+}
+
+// The words behind a command, and its text. Of the lines after it, those of the text are read.
+pub(crate) fn read_text<'a>(
     alloc: Global,
-    rest: &[u8],
+    can_have: bool,
+    rest: &'a [u8],
     lines: &mut Lines<'_>,
-) -> Result<Bytes, HostFault>
+) -> Result<(&'a [u8], Text), HostFault>
     requires { lines.old.number + length lines.old.rest.now ≤ 4194304 }
 
-    ensures gives { Gives (λ text. (text, lines.new.number - lines.old.number)) result
-        (text_of lines.old.number rest.now (lines_of lines.old.rest.now)) }
+    ensures gives { Gives (λ parts. (parts.0.now, parts.1, lines.new.number - lines.old.number)) result
+        (text_of can_have lines.old.number rest.now (lines_of lines.old.rest.now)) }
     ensures goes { OnOk result (Goes lines.old.number lines.old.rest.now lines.new.number lines.new.rest.now) }
-    ensures short { IfOk result (λ text. length text ≤ 65536) }
 {
-    let command = lines.number;
-    if let Some(text) = text_here(rest) {
+    if let Some((words, text)) = text_here(rest) {
         if text.len() > MOST_TEXT {
-            return Err(unknown(command));
+            return Err(at(lines.number, HostKind::TooLong));
         }
-        return Ok(Items::from_vec(text.to_vec(alloc)?));
+        let text = Items::from_vec(text.to_vec(alloc)?);
+        return Ok((words, Text::Given { text, bad: None }));
     }
-    match end_word(rest) {
-        Some(word) => long_text(alloc, word, lines),
-        None => Err(unknown(command)),
+    if can_have {
+        if let Some((words, word)) = end_word(rest) {
+            let text = long_text(alloc, word, lines)?;
+            return Ok((words, text));
+        }
     }
+    Ok((rest, Text::Missing))
 }

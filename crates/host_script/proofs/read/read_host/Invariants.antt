@@ -1,14 +1,12 @@
 use Rattle.std.proofs.Common.{◌≡◌, ◌+◌, ◌≤◌, length}
 use Rattle.host_script.specs.Words.{lines_of}
-use Rattle.host_script.specs.Script.{no_lines}
+use Rattle.host_script.specs.Commands.{no_lines}
 use Rattle.host_script.specs.HostText.{with_lines}
-use Rattle.host_script.specs.Steps.{IsNoted}
 use Rattle.host_script.proofs.read.read_host.Given as goal
 
 abbrev pub invariant-loop-line : goal.invariant-loop-line
 invariant-loop-line l = record {
-  whole : with_lines (l.lines.number + 1) 0 l.draft.script (lines_of l.lines.rest.now) ≡ with_lines 1 0 no_lines (lines_of l.bytes);
-  noted : IsNoted l.draft.names.keys l.draft.script;
+  whole : with_lines (l.lines.number + 1) 0 l.draft (lines_of l.lines.rest.now) ≡ with_lines 1 0 no_lines (lines_of l.bytes);
   within : l.lines.number + length l.lines.rest.now ≤ 4194304;
 }
 

@@ -1,6 +1,6 @@
 use Rattle.std.proofs.Common.{◌≡◌, ◌+◌, ◌≤◌, length}
 use Rattle.host_script.specs.Steps.{HasRead}
-use Rattle.host_script.proofs.text.long_text.Given as goal
+use Rattle.host_script.proofs.long_text.long_text.Given as goal
 
 abbrev pub invariant-loop-line : goal.invariant-loop-line
 invariant-loop-line l = record {

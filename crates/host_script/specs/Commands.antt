@@ -1,0 +1,141 @@
+-- What each command adds to a host script, or its first fault behind those of its text.
+-- This project's own; docs/HOST.md, "Commands".
+use Rattle.std.specs.Prelude.{ℕ, ◌+◌, ◌==◌, ◌&&◌, Bool, List, [], ◌∷◌, ◌++◌, length, map, sum, not, nat_le, nat_lt, is_none, if◌then◌else◌, Option, None, Some, Result, Ok}
+use Rattle.std.specs.Option.{option_map_or}
+use Rattle.std.specs.Str.{is_utf8}
+use Rattle.ivm_text.specs.Text.{units_of}
+use Rattle.ivm_text.specs.declared.copies.Leaf.{Leaf}
+use Rattle.ivm_text.specs.declared.copies.Want.TheVariants.{Value}
+use Rattle.host_syntax.specs.declared.script.HostScript.{HostScript}
+use Rattle.host_syntax.specs.declared.script.IsolateDecl.{IsolateDecl}
+use Rattle.host_syntax.specs.declared.script.HostArgument.TheVariants.{Literal}
+use Rattle.host_syntax.specs.declared.script.What.{What}
+use Rattle.host_syntax.specs.declared.script.What.TheVariants.{Declare, Context, Eval, Get, Set, Dispose, Wait}
+use Rattle.host_script.specs.declared.draft.Draft.{Draft}
+use Rattle.host_script.specs.declared.fault.HostFault.{HostFault}
+use Rattle.host_script.specs.declared.fault.HostKind.TheVariants.{BadUtf8, BadWords, BadLiteral, TooManyIsolates, TotalCells}
+use Rattle.host_script.specs.declared.names.Named.{Named}
+use Rattle.host_script.specs.declared.names.Named.TheVariants.{Isolate, Context as ContextLabel, Call}
+use Rattle.host_script.specs.Faults.{◌>>=◌, fail}
+use Rattle.host_script.specs.Literals.{literal_of}
+use Rattle.host_script.specs.Names.{new_name, isolate_named, context_named, call_named}
+use Rattle.host_script.specs.Words.{word, word_count}
+
+-- ---- a script, with one command more
+
+-- the script of no lines
+abbrev pub no_lines : Draft
+no_lines = record { script = record { isolates = []; commands = [] }; names = [] }
+
+-- the cells that the isolates of a script may have together
+abbrev pub cells_of : HostScript → ℕ
+cells_of script = sum (map (λ (decl : IsolateDecl). decl.limit) script.isolates)
+
+-- an isolate of 1,000,000 cells is declared
+abbrev pub with_isolate : Draft → List ℕ → Draft
+with_isolate draft name = record {
+  script = record {
+    isolates = draft.script.isolates ++ (record { name = name; limit = 1000000 }) ∷ [];
+    commands = draft.script.commands ++ (record { label = None; what = Declare }) ∷ [];
+  };
+  names = draft.names ++ (name, Isolate (length draft.script.isolates)) ∷ [];
+}
+
+-- a call follows under a label, which stands for this
+abbrev pub with_named : Draft → List ℕ → What → Named → Draft
+with_named draft label what named = record {
+  script = record draft.script { commands = draft.script.commands ++ (record { label = Some label; what = what }) ∷ [] };
+  names = draft.names ++ (label, named) ∷ [];
+}
+
+-- a call that makes a context
+abbrev pub with_context : Draft → List ℕ → ℕ → Draft
+with_context draft label isolate = with_named draft label (Context isolate) (ContextLabel (length draft.script.commands))
+
+-- any other call
+abbrev pub with_call : Draft → List ℕ → What → Draft
+with_call draft label what = with_named draft label what (Call (length draft.script.commands))
+
+-- a wait, which has no label
+abbrev pub with_wait : Draft → Option ℕ → Draft
+with_wait draft target = record draft {
+  script = record draft.script { commands = draft.script.commands ++ (record { label = None; what = Wait target }) ∷ [] };
+}
+
+-- ---- the commands: each at line n, given the words behind it and its text
+
+-- this many words, and no text
+abbrev pub has_words : ℕ → List ℕ → Option (List ℕ) → Bool
+has_words count words text = word_count words == count && is_none text
+
+-- `isolate NAME`
+unfoldable pub isolate_line : ℕ → Draft → List ℕ → Option (List ℕ) → Result Draft HostFault
+isolate_line n draft words text =
+    if not (has_words 1 words text) then fail n BadWords
+    else (new_name n draft.names (word 0 words) >>= λ name.
+    if nat_le 64 (length draft.script.isolates) then fail n TooManyIsolates
+    else if nat_lt 16000000 (cells_of draft.script + 1000000) then fail n TotalCells
+    else Ok (with_isolate draft name))
+
+-- `context LABEL ISOLATE`
+unfoldable pub context_line : ℕ → Draft → List ℕ → Option (List ℕ) → Result Draft HostFault
+context_line n draft words text =
+    if not (has_words 2 words text) then fail n BadWords
+    else (new_name n draft.names (word 0 words) >>= λ label.
+    isolate_named n draft.names (word 1 words) >>= λ isolate.
+    Ok (with_context draft label isolate))
+
+-- `eval LABEL CONTEXT TEXT`, to be run within 1,000,000 ticks
+abbrev pub eval_text : ℕ → Draft → List ℕ → List ℕ → Result Draft HostFault
+eval_text n draft words text =
+    if not (word_count words == 2) then fail n BadWords
+    else (new_name n draft.names (word 0 words) >>= λ label.
+    context_named n draft.names (word 1 words) >>= λ context.
+    Ok (with_call draft label (Eval context 1000000 Value text)))
+
+unfoldable pub eval_line : ℕ → Draft → List ℕ → Option (List ℕ) → Result Draft HostFault
+eval_line n draft words text = option_map_or (eval_text n draft words) text (fail n BadWords)
+
+-- the key that a word of line n is: the word itself, which is UTF-8 wherever its line is
+unfoldable pub key_of : ℕ → List ℕ → Result (List ℕ) HostFault
+key_of n word = if is_utf8 word then Ok (units_of word) else fail n BadUtf8
+
+-- `get LABEL CONTEXT KEY`
+unfoldable pub get_line : ℕ → Draft → List ℕ → Option (List ℕ) → Result Draft HostFault
+get_line n draft words text =
+    if not (has_words 3 words text) then fail n BadWords
+    else (new_name n draft.names (word 0 words) >>= λ label.
+    context_named n draft.names (word 1 words) >>= λ context.
+    key_of n (word 2 words) >>= λ key.
+    Ok (with_call draft label (Get context key Value)))
+
+-- `set LABEL CONTEXT KEY TEXT`; the text is one primitive literal
+abbrev pub value_of : ℕ → List ℕ → Result Leaf HostFault
+value_of n text = option_map_or Ok (literal_of text) (fail n BadLiteral)
+
+abbrev pub set_text : ℕ → Draft → List ℕ → List ℕ → Result Draft HostFault
+set_text n draft words text =
+    if not (word_count words == 3) then fail n BadWords
+    else (new_name n draft.names (word 0 words) >>= λ label.
+    context_named n draft.names (word 1 words) >>= λ context.
+    value_of n text >>= λ root.
+    key_of n (word 2 words) >>= λ key.
+    Ok (with_call draft label (Set context key (Literal (record { nodes = []; root = root })))))
+
+unfoldable pub set_line : ℕ → Draft → List ℕ → Option (List ℕ) → Result Draft HostFault
+set_line n draft words text = option_map_or (set_text n draft words) text (fail n BadWords)
+
+-- `dispose LABEL ISOLATE`
+unfoldable pub dispose_line : ℕ → Draft → List ℕ → Option (List ℕ) → Result Draft HostFault
+dispose_line n draft words text =
+    if not (has_words 2 words text) then fail n BadWords
+    else (new_name n draft.names (word 0 words) >>= λ label.
+    isolate_named n draft.names (word 1 words) >>= λ isolate.
+    Ok (with_call draft label (Dispose isolate)))
+
+-- `wait`, `wait LABEL`
+unfoldable pub wait_line : ℕ → Draft → List ℕ → Option (List ℕ) → Result Draft HostFault
+wait_line n draft words text =
+    if has_words 0 words text then Ok (with_wait draft None)
+    else if not (has_words 1 words text) then fail n BadWords
+    else (call_named n draft.names (word 0 words) >>= λ call. Ok (with_wait draft (Some call)))

@@ -1,0 +1,280 @@
+//! The commands, each in one function.
+ghost use Rattle.std.specs.Prelude.{◌≡◌};
+ghost use Rattle.host_script.specs.Faults.{Gives};
+ghost use Rattle.host_script.specs.Commands.{key_of, isolate_line, context_line, eval_line, get_line, set_line, dispose_line, wait_line};
+ghost use Rattle.host_script.specs.HostText.{command_of, can_have_text, command_line};
+
+use crate::draft::{CELLS, Draft};
+use crate::fault::at;
+use crate::literal::literal;
+use crate::words::words_of;
+use crate::{HostArgument, HostFault, HostKind, What};
+use item_list::Items;
+use ivm_text::{Bytes, Copy, TextFault, Units, Want};
+use std::alloc::Global;
+
+const MOST_ISOLATES: u32 = 64;
+
+const MOST_CELLS: u64 = 16_000_000;
+
+const TICKS: u32 = 1_000_000;
+
+// The word that a command begins with.
+#[derive(Clone, Copy, Debug, PartialEq, Eq)]
+pub(crate) enum CommandWord {
+    Isolate,
+    Context,
+    Eval,
+    Get,
+    Set,
+    Dispose,
+    Wait,
+}
+
+impl CommandWord {
+    pub(crate) fn can_have_text(self) -> bool
+        ensures { result ≡ can_have_text self }
+    {
+        match self {
+            CommandWord::Eval | CommandWord::Set => true,
+            CommandWord::Isolate
+            | CommandWord::Context
+            | CommandWord::Get
+            | CommandWord::Dispose
+            | CommandWord::Wait => false,
+        }
+    }
+}
+
+// The command that a word is.
+#[tactic(auto, unfolding(crate::specs::HostText::command_of))]
+pub(crate) fn command_of(word: &[u8]) -> Option<CommandWord>
+    ensures { result ≡ command_of word.now }
+{
+    if word == b"isolate".as_slice() {
+        return Some(CommandWord::Isolate);
+    }
+    if word == b"context".as_slice() {
+        return Some(CommandWord::Context);
+    }
+    if word == b"eval".as_slice() {
+        return Some(CommandWord::Eval);
+    }
+    if word == b"get".as_slice() {
+        return Some(CommandWord::Get);
+    }
+    if word == b"set".as_slice() {
+        return Some(CommandWord::Set);
+    }
+    if word == b"dispose".as_slice() {
+        return Some(CommandWord::Dispose);
+    }
+    if word == b"wait".as_slice() {
+        return Some(CommandWord::Wait);
+    }
+    None
+}
+
+// The key that a word is.
+#[tactic(auto, using(crate::proofs::NameLemmas::utf8_yes, crate::proofs::NameLemmas::utf8_no), unfolding(crate::specs::Commands::key_of))]
+fn key_of(alloc: Global, number: u32, word: &[u8]) -> Result<Units, HostFault>
+    ensures { Gives (λ key. key) result (key_of number word.now) }
+{
+    match Units::from_utf8(alloc, word) {
+        Ok(key) => Ok(key),
+        Err(TextFault::BadUtf8(_)) => Err(at(number, HostKind::BadUtf8)),
+        Err(TextFault::NoMemory) => Err(HostFault::NoMemory),
+    }
+}
+
+impl Draft {
+    // Adds a command, of which these words and this text stand behind its first word.
+    #[tactic(auto, unfolding(crate::specs::HostText::command_line))]
+    pub(crate) fn add_command(
+        &mut self,
+        alloc: Global,
+        command: CommandWord,
+        number: u32,
+        words: &[u8],
+        text: Option<Bytes>,
+    ) -> Result<(), HostFault>
+        ensures { Gives (λ _. self.new) result (command_line command number self.old words.now text) }
+    {
+        match command {
+            CommandWord::Isolate => self.isolate(alloc, number, words, text),
+            CommandWord::Context => self.context(alloc, number, words, text),
+            CommandWord::Eval => self.eval(alloc, number, words, text),
+            CommandWord::Get => self.get(alloc, number, words, text),
+            CommandWord::Set => self.set(alloc, number, words, text),
+            CommandWord::Dispose => self.dispose(alloc, number, words, text),
+            CommandWord::Wait => self.wait(alloc, number, words, text),
+        }
+    }
+
+    // `isolate NAME`
+    #[tactic(auto, unfolding(crate::specs::Commands::isolate_line))]
+    fn isolate(
+        &mut self,
+        alloc: Global,
+        number: u32,
+        words: &[u8],
+        text: Option<Bytes>,
+    ) -> Result<(), HostFault>
+        ensures { Gives (λ _. self.new) result (isolate_line number self.old words.now text) }
+    {
+        let words = words_of(words);
+        if words.count != 1 || text.is_some() {
+            return Err(at(number, HostKind::BadWords));
+        }
+        let name = self.names.new_name(alloc, number, words.first)?;
+        if self.script.isolates.len() >= MOST_ISOLATES {
+            return Err(at(number, HostKind::TooManyIsolates));
+        }
+        if self.cells() > MOST_CELLS - CELLS as u64 {
+            return Err(at(number, HostKind::TotalCells));
+        }
+        self.add_isolate(alloc, name)
+    }
+
+    // `context LABEL ISOLATE`
+    #[tactic(auto, unfolding(crate::specs::Commands::context_line))]
+    fn context(
+        &mut self,
+        alloc: Global,
+        number: u32,
+        words: &[u8],
+        text: Option<Bytes>,
+    ) -> Result<(), HostFault>
+        ensures { Gives (λ _. self.new) result (context_line number self.old words.now text) }
+    {
+        let words = words_of(words);
+        if words.count != 2 || text.is_some() {
+            return Err(at(number, HostKind::BadWords));
+        }
+        let label = self.names.new_name(alloc, number, words.first)?;
+        let isolate = self.names.isolate(alloc, number, words.second)?;
+        self.add_context(alloc, label, isolate)
+    }
+
+    // `eval LABEL CONTEXT TEXT`
+    #[tactic(auto, unfolding(crate::specs::Commands::eval_line))]
+    fn eval(
+        &mut self,
+        alloc: Global,
+        number: u32,
+        words: &[u8],
+        text: Option<Bytes>,
+    ) -> Result<(), HostFault>
+        ensures { Gives (λ _. self.new) result (eval_line number self.old words.now text) }
+    {
+        let words = words_of(words);
+        let Some(text) = text else {
+            return Err(at(number, HostKind::BadWords));
+        };
+        if words.count != 2 {
+            return Err(at(number, HostKind::BadWords));
+        }
+        let label = self.names.new_name(alloc, number, words.first)?;
+        let context = self.names.context(alloc, number, words.second)?;
+        let what = What::Eval {
+            context,
+            budget: TICKS,
+            want: Want::Value,
+            text,
+        };
+        self.add_call(alloc, label, what)
+    }
+
+    // `get LABEL CONTEXT KEY`
+    #[tactic(auto, unfolding(crate::specs::Commands::get_line))]
+    fn get(
+        &mut self,
+        alloc: Global,
+        number: u32,
+        words: &[u8],
+        text: Option<Bytes>,
+    ) -> Result<(), HostFault>
+        ensures { Gives (λ _. self.new) result (get_line number self.old words.now text) }
+    {
+        let words = words_of(words);
+        if words.count != 3 || text.is_some() {
+            return Err(at(number, HostKind::BadWords));
+        }
+        let label = self.names.new_name(alloc, number, words.first)?;
+        let target = self.names.context(alloc, number, words.second)?;
+        let key = key_of(alloc, number, words.third)?;
+        let want = Want::Value;
+        self.add_call(alloc, label, What::Get { target, key, want })
+    }
+
+    // `set LABEL CONTEXT KEY TEXT`
+    #[tactic(auto, unfolding(crate::specs::Commands::set_line))]
+    fn set(
+        &mut self,
+        alloc: Global,
+        number: u32,
+        words: &[u8],
+        text: Option<Bytes>,
+    ) -> Result<(), HostFault>
+        ensures { Gives (λ _. self.new) result (set_line number self.old words.now text) }
+    {
+        let words = words_of(words);
+        let Some(text) = text else {
+            return Err(at(number, HostKind::BadWords));
+        };
+        if words.count != 3 {
+            return Err(at(number, HostKind::BadWords));
+        }
+        let label = self.names.new_name(alloc, number, words.first)?;
+        let target = self.names.context(alloc, number, words.second)?;
+        let Some(root) = literal(text.as_slice()) else {
+            return Err(at(number, HostKind::BadLiteral));
+        };
+        let key = key_of(alloc, number, words.third)?;
+        let nodes = Items::new(alloc);
+        let value = HostArgument::Literal(Copy { nodes, root });
+        self.add_call(alloc, label, What::Set { target, key, value })
+    }
+
+    // `dispose LABEL ISOLATE`
+    #[tactic(auto, unfolding(crate::specs::Commands::dispose_line))]
+    fn dispose(
+        &mut self,
+        alloc: Global,
+        number: u32,
+        words: &[u8],
+        text: Option<Bytes>,
+    ) -> Result<(), HostFault>
+        ensures { Gives (λ _. self.new) result (dispose_line number self.old words.now text) }
+    {
+        let words = words_of(words);
+        if words.count != 2 || text.is_some() {
+            return Err(at(number, HostKind::BadWords));
+        }
+        let label = self.names.new_name(alloc, number, words.first)?;
+        let isolate = self.names.isolate(alloc, number, words.second)?;
+        self.add_call(alloc, label, What::Dispose { isolate })
+    }
+
+    // `wait`, `wait LABEL`
+    #[tactic(auto, unfolding(crate::specs::Commands::wait_line))]
+    fn wait(
+        &mut self,
+        alloc: Global,
+        number: u32,
+        words: &[u8],
+        text: Option<Bytes>,
+    ) -> Result<(), HostFault>
+        ensures { Gives (λ _. self.new) result (wait_line number self.old words.now text) }
+    {
+        let words = words_of(words);
+        if words.count > 1 || text.is_some() {
+            return Err(at(number, HostKind::BadWords));
+        }
+        if words.count == 0 {
+            return self.add_wait(None);
+        }
+        let call = self.names.call(alloc, number, words.first)?;
+        self.add_wait(Some(call))
+    }
+}
