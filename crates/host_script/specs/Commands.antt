@@ -21,6 +21,24 @@ use Rattle.host_script.specs.Literals.{literal_of}
 use Rattle.host_script.specs.Names.{new_name, isolate_named, context_named, call_named}
 use Rattle.host_script.specs.Words.{word, word_count}
 
+-- ---- limits
+
+-- the isolates that a script may have
+abbrev pub most_isolates : ℕ
+most_isolates = 64
+
+-- the cells that they may have together
+abbrev pub most_cells : ℕ
+most_cells = 16000000
+
+-- the cells of one isolate
+abbrev pub cells : ℕ
+cells = 1000000
+
+-- the ticks in which a text may run
+abbrev pub ticks : ℕ
+ticks = 1000000
+
 -- ---- a script, with one command more
 
 -- the script of no lines
@@ -31,11 +49,11 @@ no_lines = record { script = record { isolates = []; commands = [] }; names = []
 abbrev pub cells_of : HostScript → ℕ
 cells_of script = sum (map (λ (decl : IsolateDecl). decl.limit) script.isolates)
 
--- an isolate of 1,000,000 cells is declared
+-- an isolate is declared
 abbrev pub with_isolate : Draft → List ℕ → Draft
 with_isolate draft name = record {
   script = record {
-    isolates = draft.script.isolates ++ (record { name = name; limit = 1000000 }) ∷ [];
+    isolates = draft.script.isolates ++ (record { name = name; limit = cells }) ∷ [];
     commands = draft.script.commands ++ (record { label = None; what = Declare }) ∷ [];
   };
   names = draft.names ++ (name, Isolate (length draft.script.isolates)) ∷ [];
@@ -73,8 +91,8 @@ unfoldable pub isolate_line : ℕ → Draft → List ℕ → Option (List ℕ) �
 isolate_line n draft words text =
     if not (has_words 1 words text) then fail n BadWords
     else (new_name n draft.names (word 0 words) >>= λ name.
-    if nat_le 64 (length draft.script.isolates) then fail n TooManyIsolates
-    else if nat_lt 16000000 (cells_of draft.script + 1000000) then fail n TotalCells
+    if nat_le most_isolates (length draft.script.isolates) then fail n TooManyIsolates
+    else if nat_lt most_cells (cells_of draft.script + cells) then fail n TotalCells
     else Ok (with_isolate draft name))
 
 -- `context LABEL ISOLATE`
@@ -85,14 +103,15 @@ context_line n draft words text =
     isolate_named n draft.names (word 1 words) >>= λ isolate.
     Ok (with_context draft label isolate))
 
--- `eval LABEL CONTEXT TEXT`, to be run within 1,000,000 ticks
+-- `eval LABEL CONTEXT` with this text
 abbrev pub eval_text : ℕ → Draft → List ℕ → List ℕ → Result Draft HostFault
 eval_text n draft words text =
     if not (word_count words == 2) then fail n BadWords
     else (new_name n draft.names (word 0 words) >>= λ label.
     context_named n draft.names (word 1 words) >>= λ context.
-    Ok (with_call draft label (Eval context 1000000 Value text)))
+    Ok (with_call draft label (Eval context ticks Value text)))
 
+-- `eval LABEL CONTEXT TEXT`
 unfoldable pub eval_line : ℕ → Draft → List ℕ → Option (List ℕ) → Result Draft HostFault
 eval_line n draft words text = option_map_or (eval_text n draft words) text (fail n BadWords)
 
@@ -109,10 +128,11 @@ get_line n draft words text =
     key_of n (word 2 words) >>= λ key.
     Ok (with_call draft label (Get context key Value)))
 
--- `set LABEL CONTEXT KEY TEXT`; the text is one primitive literal
+-- the primitive that the text of a `set` on line n is
 abbrev pub value_of : ℕ → List ℕ → Result Leaf HostFault
 value_of n text = option_map_or Ok (literal_of text) (fail n BadLiteral)
 
+-- `set LABEL CONTEXT KEY` with this text
 abbrev pub set_text : ℕ → Draft → List ℕ → List ℕ → Result Draft HostFault
 set_text n draft words text =
     if not (word_count words == 3) then fail n BadWords
@@ -122,6 +142,7 @@ set_text n draft words text =
     key_of n (word 2 words) >>= λ key.
     Ok (with_call draft label (Set context key (Literal (record { nodes = []; root = root })))))
 
+-- `set LABEL CONTEXT KEY TEXT`
 unfoldable pub set_line : ℕ → Draft → List ℕ → Option (List ℕ) → Result Draft HostFault
 set_line n draft words text = option_map_or (set_text n draft words) text (fail n BadWords)
 

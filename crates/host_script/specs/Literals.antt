@@ -23,6 +23,7 @@ unfoldable pub number_of : List ℕ → Option ℕ
 number_of digits =
     if length digits == 0 || (slice_index digits 0 == 48 && not (length digits == 1)) then None else read_on 0 digits
 
+-- a space
 abbrev pub is_space : ℕ → Bool
 is_space byte = byte == 32
 

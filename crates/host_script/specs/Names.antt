@@ -21,32 +21,35 @@ new_name n names name =
     else if is_some (named name names) then fail n NameTaken
     else Ok name
 
--- the number of an isolate that line n names
+-- the number of an isolate, where line n wants a name of one
 abbrev pub isolate_among : ℕ → Option Named → Result ℕ HostFault
 isolate_among n None = fail n UnknownName
 isolate_among n (Some (Isolate isolate)) = Ok isolate
 isolate_among n (Some (Context call)) = fail n WrongKind
 isolate_among n (Some (Call call)) = fail n WrongKind
 
--- the number of the command with a context's label that line n names
+-- the number of a command that makes a context, where line n wants its label
 abbrev pub context_among : ℕ → Option Named → Result ℕ HostFault
 context_among n None = fail n UnknownName
 context_among n (Some (Isolate isolate)) = fail n WrongKind
 context_among n (Some (Context call)) = Ok call
 context_among n (Some (Call call)) = fail n WrongKind
 
--- the number of the command with the label that line n names, a context's or another
+-- the number of a command that is a call, where line n wants its label
 abbrev pub call_among : ℕ → Option Named → Result ℕ HostFault
 call_among n None = fail n UnknownName
 call_among n (Some (Isolate isolate)) = fail n WrongKind
 call_among n (Some (Context call)) = Ok call
 call_among n (Some (Call call)) = Ok call
 
+-- the isolate that a word of line n names
 unfoldable pub isolate_named : ℕ → List (List ℕ × Named) → List ℕ → Result ℕ HostFault
 isolate_named n names name = isolate_among n (named name names)
 
+-- the context whose label a word of line n is
 unfoldable pub context_named : ℕ → List (List ℕ × Named) → List ℕ → Result ℕ HostFault
 context_named n names name = context_among n (named name names)
 
+-- the call whose label a word of line n is
 unfoldable pub call_named : ℕ → List (List ℕ × Named) → List ℕ → Result ℕ HostFault
 call_named n names name = call_among n (named name names)
