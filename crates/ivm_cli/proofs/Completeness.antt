@@ -5,7 +5,7 @@ use Rattle.std.specs.Io.KnownBytes.{IsAtEnd}
 use Rattle.ivm_io.specs.Transfers.{Reads}
 use Rattle.task_history.specs.declared.record.Record.{Record}
 use Rattle.host_script.specs.HostText.{host_of}
-use Rattle.host_script.specs.declared.script.HostScript.{HostScript}
+use Rattle.host_syntax.specs.declared.script.HostScript.{HostScript}
 use Rattle.host_script.specs.declared.fault.HostFault.TheVariants.{At}
 use Rattle.host_script.specs.declared.fault.HostKind.{HostKind}
 use Rattle.ivm_cli.proofs.HostLaws.{host_of_long}

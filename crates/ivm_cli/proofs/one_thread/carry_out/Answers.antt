@@ -1,7 +1,7 @@
-use Rattle.std.proofs.Common.{◌≡◌, ◌≢◌, ℕ, length, ap, ◌∙◌, arith}
+use Rattle.std.proofs.Common.{◌≡◌, ◌≢◌, ℕ, [], length, refl, ap, ◌∙◌, arith}
 use Rattle.task_history.specs.declared.task.Task.{Task}
 use Rattle.host_meaning.specs.declared.moves.Move.{Move}
-use Rattle.host_meaning.specs.declared.moves.Move.TheVariants.{Post, Ask, Blocked}
+use Rattle.host_meaning.specs.declared.moves.Move.TheVariants.{Own, Post, Ask, Blocked}
 use Rattle.host_meaning.specs.Stand.{beginning}
 use Rattle.host_laws.specs.Driving.{fresh_cells, outs_at}
 use Rattle.host_laws.proofs.Driven.{begin_cells, cell_there, post_index, ask_index, within_next, post_fits, after_own, after_post, after_ask, fewer_commands, ends_lawful}
@@ -9,6 +9,9 @@ use Rattle.ivm_cli.proofs.one_thread.carry_out.Goals as goal
 
 posts_on : (m : Move) (i : ℕ) (task : Task) → m ≡ Post i task → m ≢ Blocked
 posts_on m i task is blocked = cc
+
+own_on : (m : Move) → m ≡ Own → m ≢ Blocked
+own_on m is blocked = cc
 
 asks_on : (m : Move) (i : ℕ) → m ≡ Ask i → m ≢ Blocked
 asks_on m i is blocked = cc
@@ -23,6 +26,11 @@ commands-init c =
 
 pub commands-preserved-in-Own : goal.commands-preserved-in-Own
 commands-preserved-in-Own c = after_own c.args.script.now c.commands.host c.commands.cells.items c.commands.invariant c.step.new.self c.in_ok-step.field-0 c.in_ok-step.ensures.ok c.in-Own.is
+
+pub commands-smaller-in-Own : goal.commands-smaller-in-Own
+commands-smaller-in-Own c =
+    fewer_commands c.args.script.now c.commands.host c.commands.cells.items c.requires c.commands.invariant c.step.new.self c.step.new.self c.in_ok-step.field-0 0 [] c.in_ok-step.ensures.ok
+      (own_on c.in_ok-step.field-0 c.in-Own.is) refl
 
 -- ---- a post
 
