@@ -5,3 +5,4 @@ pub mod Asked
 pub mod Kept
 pub mod Next
 pub mod Replied
+pub mod Last

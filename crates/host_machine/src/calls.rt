@@ -1,9 +1,9 @@
 //! The calls of a run, by number: which are settled, and what their settlements hold.
-ghost use Rattle.std.specs.Prelude.{◌≡◌, ◌<◌, [], ◌∷◌, ◌++◌, length, List, Option, None, Some, OnOk, OnErr, slice_set, slice_index_or, true};
+ghost use Rattle.std.specs.Prelude.{◌≡◌, ◌<◌, [], ◌∷◌, ◌++◌, length, None, Some, OnOk, OnErr, slice_set, slice_index_or, true};
 ghost use Rattle.std.specs.List.{list_all};
 ghost use Rattle.host_meaning.specs.Stand.{is_there};
 ghost use Rattle.host_machine.specs.Calls.{is_open_in};
-ghost use Rattle.host_meaning.specs.declared.moves.Held.{Held as HeldThere};
+ghost use Rattle.host_machine.specs.Last.{DropsLast};
 
 use host_meaning::Held;
 use item_list::Items;
@@ -15,12 +15,11 @@ use std::marker::Model;
 pub struct Calls {
     held: Items<Option<Held>>,
     /// How many are not settled.
-    open: u32,
+    unsettled: u32,
 }
 
 impl Model for Calls {
     ghost use Rattle.std.specs.Prelude.{◌≡◌, List, Option};
-    ghost use Rattle.host_machine.specs.Calls.{is_open_in};
     ghost use Rattle.host_meaning.specs.declared.moves.Held.{Held};
     ghost use Rattle.host_machine.specs.Calls.{open_count};
 
@@ -28,7 +27,7 @@ impl Model for Calls {
 
     ghost view = { λ c. c.held };
 
-    ghost invariant = { λ c. c.open ≡ open_count c.held };
+    ghost invariant = { λ c. c.unsettled ≡ open_count c.held };
 }
 
 impl Calls {
@@ -38,7 +37,7 @@ impl Calls {
     {
         Calls {
             held: Items::new(alloc),
-            open: 0,
+            unsettled: 0,
         }
     }
 
@@ -74,7 +73,7 @@ impl Calls {
     pub fn are_settled(&self) -> bool
         ensures { result ≡ list_all is_there self.now }
     {
-        self.open == 0
+        self.unsettled == 0
     }
 
     /// Draws the next number. Refused for want of memory, it leaves all as it was.
@@ -85,17 +84,17 @@ impl Calls {
         self.held.push(settled)?;
         let _drawn = self.held.len();
         if settled.is_none() {
-            self.open += 1;
+            self.unsettled += 1;
         }
         Ok(())
     }
 
     /// Takes the last number back.
     pub fn take_back(&mut self)
-        ensures { (calls : List (Option HeldThere)) (last : Option HeldThere) → self.old ≡ calls ++ last ∷ [] → self.new ≡ calls }
+        ensures { DropsLast self.old self.new }
     {
         if let Some(None) = self.held.pop() {
-            self.open -= 1;
+            self.unsettled -= 1;
         }
     }
 
@@ -106,6 +105,6 @@ impl Calls {
         ensures { self.new ≡ slice_set self.old number (Some held) }
     {
         self.held.set(number, Some(held));
-        self.open -= 1;
+        self.unsettled -= 1;
     }
 }

@@ -1,11 +1,11 @@
 //! The last item of a list, taken back.
-ghost use Rattle.std.specs.Prelude.{◌≡◌, ◌∷◌, ◌++◌, [], List};
+ghost use Rattle.host_machine.specs.Last.{DropsLast};
 
 use item_list::Items;
 
 /// Drops the last item.
 pub fn drop_last<T: Drop>(list: &mut Items<T>)
-    ensures { (rest : List T) (last : T) → list.old ≡ rest ++ last ∷ [] → list.new ≡ rest }
+    ensures { DropsLast list.old list.new }
 {
     list.pop();
 }
