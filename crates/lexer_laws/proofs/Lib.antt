@@ -1,2 +1,3 @@
 mod CommentLemmas
+mod EscapeLemmas
 mod NumeralLemmas

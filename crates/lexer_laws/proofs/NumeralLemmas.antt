@@ -14,14 +14,14 @@ use Rattle.js_lexer.specs.Escapes.{is_hex}
 use Rattle.js_lexer.specs.Numbers.{clings, ended, digits, hexadecimal, is_x, after_zero, number}
 use Rattle.lexer_laws.specs.Numerals.{IsDigitTo, value_behind, Writes, zero_alone, decimal_digits, hexadecimal_digits, NumberStands, IsNumberThere}
 
-cond_by : {A : Type 0} (P : A → Type 0) (b : Bool) (x y : A) → (b ≡ true → P x) → (b ≡ false → P y) → P (cond b x y)
+pub cond_by : {A : Type 0} (P : A → Type 0) (b : Bool) (x y : A) → (b ≡ true → P x) → (b ≡ false → P y) → P (cond b x y)
 cond_by P true x y p q = p refl
 cond_by P false x y p q = q refl
 
-not_both : {b : Bool} → b ≡ true → b ≡ false → ⊥
+pub not_both : {b : Bool} → b ≡ true → b ≡ false → ⊥
 not_both p q = cc
 
-both : (a b : Bool) → (a && b) ≡ true → (a ≡ true) × (b ≡ true)
+pub both : (a b : Bool) → (a && b) ≡ true → (a ≡ true) × (b ≡ true)
 both true b h = (refl, h)
 both false b h = absurd (not_both h refl)
 
@@ -111,11 +111,11 @@ digits_sound base n (c ∷ t) =
     one_more c digit small None s = tt
     one_more c digit small (Some (k, u)) s = (c ∷ s.0, ap (λ l. c ∷ l) s.1, All-cons (IsDigitTo base) c s.0 digit s.2, s.3, (λ h. s.4 small), s.5)
 
-through : (a b c : ℕ) → a ≤ b → b ≤ c → a ≤ c
+pub through : (a b c : ℕ) → a ≤ b → b ≤ c → a ≤ c
 through a b c p q = omega arith
 
 -- further digits make no number smaller
-grown : (base : ℕ) → ((n d : ℕ) → n ≤ base * n + d) → (n : ℕ) (ds : Text) → n ≤ value_behind base n ds
+pub grown : (base : ℕ) → ((n d : ℕ) → n ≤ base * n + d) → (n : ℕ) (ds : Text) → n ≤ value_behind base n ds
 grown base grows n [] = omega arith
 grown base grows n (c ∷ cs) =
     through n (base * n + digit_value c) (value_behind base n (c ∷ cs)) (grows n (digit_value c)) (grown base grows (base * n + digit_value c) cs)
