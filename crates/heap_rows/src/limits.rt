@@ -1,6 +1,7 @@
 //! Heaps filled to exactly their limit, and not by one cell more.
 
-use crate::samples::{Change, Sample, carry_out, item};
+use crate::changes::{Change, FreeChange, carry_out, carry_out_free};
+use crate::samples::{Sample, item};
 use charged_heap::{Heap, HeapFault};
 use std::alloc::Global;
 use std::test::Fail;
@@ -47,15 +48,15 @@ static ASKED: [(Sample, Change, u32, u32); 33] = [
 ];
 
 /// What asks for no cells, and the charge before and after it.
-static FREE: [(Sample, Change, u32, u32); 8] = [
-    (Sample::Plain("ab"), Change::Property("ab"), 7, 7),
-    (Sample::Array(2), Change::Put, 6, 6),
-    (Sample::Array(2), Change::Pop, 6, 5),
-    (Sample::Array(0), Change::Pop, 4, 4),
-    (Sample::Scope(2), Change::Put, 4, 4),
-    (Sample::Scope(2), Change::NotedName, 4, 4),
-    (Sample::Promise(1), Change::Resolve, 7, 7),
-    (Sample::Reference, Change::Release, 4, 4),
+static FREE: [(Sample, FreeChange, u32, u32); 8] = [
+    (Sample::Plain("ab"), FreeChange::PresentKey("ab"), 7, 7),
+    (Sample::Array(2), FreeChange::Put, 6, 6),
+    (Sample::Array(2), FreeChange::Pop, 6, 5),
+    (Sample::Array(0), FreeChange::Pop, 4, 4),
+    (Sample::Scope(2), FreeChange::Put, 4, 4),
+    (Sample::Scope(2), FreeChange::NotedName, 4, 4),
+    (Sample::Promise(1), FreeChange::Resolve, 7, 7),
+    (Sample::Reference, FreeChange::Release, 4, 4),
 ];
 
 /// A heap with one item.
@@ -107,11 +108,7 @@ fn a_full_heap_takes_what_is_free(rt: HostRuntime) -> Result<(), Fail> {
     for (sample, asking, limit, after) in &FREE {
         let mut heap = heap_of(rt.alloc(), *sample, *limit)?;
         assert_eq!(rt; heap.charged(), *limit, "of {sample:?}");
-        assert_eq!(rt;
-            carry_out(rt.alloc(), &mut heap, *asking)?,
-            Ok(()),
-            "at {asking:?}"
-        );
+        carry_out_free(rt.alloc(), &mut heap, *asking)?;
         assert_eq!(rt; heap.charged(), *after, "after {asking:?}");
     }
     Ok(())

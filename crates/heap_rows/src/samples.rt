@@ -1,8 +1,6 @@
-//! Items and changes, as tables name them.
-ghost use Rattle.std.specs.Prelude.{◌≡◌, ◌<◌, length, OnOk, IsTrue};
-ghost use Rattle.charged_heap.specs.Store.{item_at, place_count};
+//! Items, as tables name them.
 
-use charged_heap::{Binding, Heap, HeapFault, Item, PromiseState, Props, Reaction, Value};
+use charged_heap::{Binding, Item, PromiseState, Props, Reaction, Value};
 use item_list::Items;
 use ivm_text::{Copy as PlainCopy, ErrorKind, Handle, Leaf, TypeOf, Units};
 use std::alloc::Global;
@@ -30,7 +28,7 @@ pub enum Sample {
     Script,
 }
 
-const HANDLER: Reaction = Reaction {
+pub const HANDLER: Reaction = Reaction {
     good: Value::Undefined,
     bad: Value::Null,
     next: None,
@@ -140,114 +138,4 @@ pub fn item(alloc: Global, sample: Sample) -> Result<Item, Fail> {
         Sample::Row => Ok(Item::Row(Value::Null)),
         Sample::Script => Ok(Item::Script(0)),
     }
-}
-
-/// What is asked of a heap; all but additions change its first item.
-#[derive(Debug, Clone, Copy)]
-pub enum Change {
-    Add(Sample),
-    /// Two of the item, in one charge.
-    AddTwo(Sample),
-    Property(&'static str),
-    Element,
-    Pop,
-    /// The element or binding 0 gets another value.
-    Put,
-    Binding,
-    NotedName,
-    Reaction,
-    Resolve,
-    Release,
-}
-
-/// What a change needs of the heap, or else the test fails.
-fn needs(holds: bool) -> Result<(), &'static str>
-    ensures { OnOk result (IsTrue holds) }
-{
-    if holds {
-        Ok(())
-    } else {
-        Err("the first item is of another kind")
-    }
-}
-
-/// Carries a change out on a heap.
-pub fn carry_out(
-    alloc: Global,
-    heap: &mut Heap,
-    change: Change,
-) -> Result<Result<(), HeapFault>, Fail> {
-    match change {
-        Change::Add(sample) => Ok(heap.add(item(alloc, sample)?).map(|_| ())),
-        Change::AddTwo(sample) => add_two(alloc, heap, sample),
-        Change::Property(key) => {
-            let key = Units::from_text(alloc, key)?;
-            needs(heap.is_plain(0))?;
-            Ok(heap.set(0, &key, Value::Null))
-        }
-        Change::Element => {
-            needs(heap.is_array(0))?;
-            Ok(heap.push(0, Value::Null))
-        }
-        Change::Pop => {
-            needs(heap.is_array(0))?;
-            let _last = heap.pop(0);
-            Ok(Ok(()))
-        }
-        Change::Put => {
-            needs(heap.len() > 0)?;
-            put_first(heap);
-            Ok(Ok(()))
-        }
-        Change::Binding => {
-            needs(heap.is_scope(0))?;
-            Ok(heap.declare(0, &Units::new(alloc), false))
-        }
-        Change::NotedName => {
-            needs(heap.is_scope(0))?;
-            heap.declare_function(0, &Units::new(alloc))?;
-            Ok(Ok(()))
-        }
-        Change::Reaction => {
-            needs(heap.is_promise(0))?;
-            Ok(heap.react(0, HANDLER))
-        }
-        Change::Resolve => {
-            needs(heap.is_promise(0))?;
-            heap.resolve(0, PromiseState::Adopting);
-            Ok(Ok(()))
-        }
-        Change::Release => {
-            needs(heap.is_reference(0))?;
-            heap.release(0);
-            Ok(Ok(()))
-        }
-    }
-}
-
-/// How many elements or bindings the first item has.
-fn places(heap: &Heap) -> u32
-    requires { 0 < length heap.now.items }
-    ensures { result ≡ place_count (item_at heap.now 0) }
-{
-    match heap.get(0) {
-        Item::Array(values) => values.len(),
-        Item::Scope { bindings, .. } => bindings.len(),
-        _ => 0,
-    }
-}
-
-fn put_first(heap: &mut Heap)
-    requires { 0 < length heap.old.items }
-{
-    if places(heap) > 0 {
-        heap.put(0, 0, Value::Num(1));
-    }
-}
-
-fn add_two(alloc: Global, heap: &mut Heap, sample: Sample) -> Result<Result<(), HeapFault>, Fail> {
-    let mut two = Vec::new(alloc);
-    two.push(item(alloc, sample)?)?;
-    two.push(item(alloc, sample)?)?;
-    Ok(heap.add_all(two))
 }
