@@ -29,6 +29,3 @@ pub use price::{
 };
 pub use props::Props;
 pub use values::{Binding, Bindings, Names, PromiseState, Reaction, Reactions, Value, Values};
-
-#[cfg(test)]
-mod tests;

@@ -64,7 +64,7 @@ static ALONE: [(&str, &str); 57] = [
     ("=", "p0:="),
 ];
 
-/// Each next to each that it begins.
+/// Each behind each that it begins.
 static NEXT: [(&str, &str); 44] = [
     ("!=!", "p0:!= p2:!"),
     ("!==!", "p0:!== p3:!"),
@@ -110,6 +110,40 @@ static NEXT: [(&str, &str); 44] = [
     ("||=|", "p0:||= p3:|"),
     ("||=||", "p0:||= p3:||"),
     ("|||", "p0:|| p2:|"),
+];
+
+/// Each before each that it begins, where that isn't in the table above.
+static BEFORE: [(&str, &str); 29] = [
+    ("!!=", "p0:! p1:!="),
+    ("!!==", "p0:! p1:!=="),
+    ("!=!==", "p0:!= p2:!=="),
+    ("%%=", "p0:% p1:%="),
+    ("&&=", "p0:&&="),
+    ("&&&=", "p0:&& p2:&="),
+    ("&&&&=", "p0:&& p2:&&="),
+    ("**=", "p0:**="),
+    ("***=", "p0:** p2:*="),
+    ("****=", "p0:** p2:**="),
+    ("++=", "p0:++ p2:="),
+    ("--=", "p0:-- p2:="),
+    // a comment
+    ("//=", ""),
+    ("<<=", "p0:<<="),
+    ("<<<=", "p0:<< p2:<="),
+    ("<<<<=", "p0:<< p2:<<="),
+    ("==>", "p0:== p2:>"),
+    ("=====", "p0:=== p3:=="),
+    (">>=", "p0:>>="),
+    (">>>=", "p0:>>>="),
+    (">>>>=", "p0:>>> p3:>="),
+    (">>>>>=", "p0:>>> p3:>>="),
+    (">>>>>>=", "p0:>>> p3:>>>="),
+    ("??.", "p0:?? p2:."),
+    ("???=", "p0:?? p2:? p3:="),
+    ("????=", "p0:?? p2:??="),
+    ("^^=", "p0:^ p1:^="),
+    ("|||=", "p0:|| p2:|="),
+    ("||||=", "p0:|| p2:||="),
 ];
 
 /// Between words, the longest at each place.
@@ -164,7 +198,7 @@ fn each_punctuator_alone(rt: HostRuntime) -> Result<(), Fail> {
 #[test]
 fn next_to_what_it_begins(rt: HostRuntime) -> Result<(), Fail> {
     let alloc = rt.alloc();
-    for (text, wanted) in &NEXT {
+    for (text, wanted) in NEXT.iter().chain(&BEFORE) {
         let found = reading(alloc, text.as_bytes())?;
         assert_eq!(rt; found.as_str(), *wanted);
     }

@@ -1,0 +1,3 @@
+mod CommentLemmas
+mod EscapeLemmas
+mod NumeralLemmas

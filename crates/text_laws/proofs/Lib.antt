@@ -1,0 +1,2 @@
+mod CharacterBytes
+mod FaultLemmas
