@@ -29,7 +29,10 @@ static REPORTS: [(&str, &str); 16] = [
     ("", ""),
     ("# nothing\n\n   \t\n", ""),
     ("isolate a", ""),
-    ("isolate a\nwait\ncontext c a\nwait c\neval x c : 1\nwait x\nwait\n", "c: context\nx: value 1\n"),
+    (
+        "isolate a\nwait\ncontext c a\nwait c\neval x c : 1\nwait x\nwait\n",
+        "c: context\nx: value 1\n",
+    ),
     (
         "isolate a\r\ncontext c a\r\nset s c k : 4\r\n\tget  g\tc k \r\n",
         "c: context\ns: done\ng: value 4\n",
@@ -57,7 +60,10 @@ static REPORTS: [(&str, &str); 16] = [
         "isolate a\nisolate b\ncontext c a\ncontext d b\ndispose x a\neval y c : 1\neval z d : 2\nget g c k\nset s c k : 1\ncontext e a\neval w e : 3\n",
         "c: context\nd: context\nx: done\ny: disposed\nz: value 2\ng: disposed\ns: disposed\ne: disposed\nw: disposed\n",
     ),
-    ("isolate a\ndispose d a\ncontext c a\n", "d: done\nc: disposed\n"),
+    (
+        "isolate a\ndispose d a\ncontext c a\n",
+        "d: done\nc: disposed\n",
+    ),
     // isolates may be declared between calls
     (
         "isolate a\ncontext c a\neval x c : 1\nisolate b\ncontext d b\neval y d : 2\n",
@@ -84,7 +90,10 @@ static REPORTS: [(&str, &str); 16] = [
 
 // What stands behind `isolate a` and `context c a`, and what is written behind `c: context`.
 static FRAGMENTS: [(&str, &str); 15] = [
-    ("eval x c : let n = 2;\neval y c : n * n", "x: value undefined\ny: value 4\n"),
+    (
+        "eval x c : let n = 2;\neval y c : n * n",
+        "x: value undefined\ny: value 4\n",
+    ),
     (
         "eval x c : let n = 2; let n = 3;\neval y c : n\neval z c : let n = 4; n",
         "x: syntax Unexpected 0\ny: syntax Unexpected 0\nz: value 4\n",
@@ -93,7 +102,10 @@ static FRAGMENTS: [(&str, &str); 15] = [
         "eval x c : let k = 1; let n = 9007199254740991 + k; let m = 1;\neval y c : k\neval z c : n\neval w c : let m = 2;",
         "x: throw RangeError(\"number out of range\")\ny: value 1\nz: syntax Unexpected 0\nw: syntax Unexpected 0\n",
     ),
-    ("eval x c :\neval y c : ", "x: value undefined\ny: value undefined\n"),
+    (
+        "eval x c :\neval y c : ",
+        "x: value undefined\ny: value undefined\n",
+    ),
     // every literal, and a key that isn't there
     (
         "set s c k : undefined\nget g c k\nset t c k : null\nget h c k",
@@ -128,15 +140,24 @@ static FRAGMENTS: [(&str, &str); 15] = [
         "s: done\nx: throw RangeError(\"number out of range\")\ny: throw TypeError(\"wrong kind of operand\")\n",
     ),
     // a name that the text itself declares isn't looked up in the global object
-    ("set s c g : 5\neval x c : let a = g; let g = 1;", "s: done\nx: syntax Unexpected 0\n"),
+    (
+        "set s c g : 5\neval x c : let a = g; let g = 1;",
+        "s: done\nx: syntax Unexpected 0\n",
+    ),
     // a name without a value hides a property
     (
         "eval x c : let n = 9007199254740991 + 1;\nset s c n : 3\neval y c : n\nget g c n",
         "x: throw RangeError(\"number out of range\")\ns: done\ny: syntax Unexpected 0\ng: value 3\n",
     ),
     // labels are names of calls; a wait for any of them goes on
-    ("eval x c : 1\nwait x\nget g c k\nwait g\nwait c", "x: value 1\ng: value undefined\n"),
-    ("context d a\neval x d : 1\neval y c : 2", "d: context\nx: value 1\ny: value 2\n"),
+    (
+        "eval x c : 1\nwait x\nget g c k\nwait g\nwait c",
+        "x: value 1\ng: value undefined\n",
+    ),
+    (
+        "context d a\neval x d : 1\neval y c : 2",
+        "d: context\nx: value 1\ny: value 2\n",
+    ),
 ];
 
 #[test]
@@ -162,17 +183,26 @@ static FAULTS: [(&str, &str); 20] = [
     ("isolate a limit=999", "1: BadWords"),
     ("isolate a\ncontext c a\neval x c", "3: BadWords"),
     ("isolate a\ncontext c a\neval x c <<E\n1 + 1", "3: OpenText"),
-    ("isolate a\ncontext c a\neval x c timeout=10 : 1", "3: BadWords"),
+    (
+        "isolate a\ncontext c a\neval x c timeout=10 : 1",
+        "3: BadWords",
+    ),
     ("isolate a\ncontext c a\nset s c k : [1]", "3: BadLiteral"),
     ("isolate a\ncontext c a\nset s c k : -0", "3: BadLiteral"),
-    ("isolate a\ncontext c a\nset s c k : 9007199254740992", "3: BadLiteral"),
+    (
+        "isolate a\ncontext c a\nset s c k : 9007199254740992",
+        "3: BadLiteral",
+    ),
     ("isolate a\ncontext c a\nget g c", "3: BadWords"),
     ("isolate a\ncontext c a\nget g x k", "3: UnknownName"),
     ("isolate a\ncontext c a\ndispose d c", "3: WrongKind"),
     ("isolate a\nwait a", "2: WrongKind"),
     ("isolate a\nwait c\ncontext c a", "2: UnknownName"),
     ("isolate a\ncontext c a\nrun r c c", "3: UnknownCommand"),
-    ("# one\n\nisolate a\ncontext c a\neval x c : 1\neval x c : 1", "6: NameTaken"),
+    (
+        "# one\n\nisolate a\ncontext c a\neval x c : 1\neval x c : 1",
+        "6: NameTaken",
+    ),
 ];
 
 #[test]

@@ -132,7 +132,7 @@ fn a_text_has_at_most_65536_bytes(rt: HostRuntime) -> Result<(), Fail> {
     assert_eq!(rt; value_of(&rt, &most)?.as_str(), "value 7");
     assert_eq!(rt;
         value_of(&rt, &above)?.as_str(),
-        "bad host script: line 3: UnknownCommand\n"
+        "bad host script: line 3: TooLong\n"
     );
     Ok(())
 }
