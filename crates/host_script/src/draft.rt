@@ -1,11 +1,11 @@
 //! A script that is being read, and what one line adds to it.
-ghost use Rattle.std.specs.Prelude.{◌≡◌, ℕ, ◌+◌, ◌-◌, ◌<◌, ◌≤◌, ◌∷◌, ◌++◌, length, None, Some, IfOk, OnOk, map, sum, if◌then◌else◌};
+ghost use Rattle.std.specs.Prelude.{◌≡◌, ℕ, ◌+◌, ◌-◌, ◌≤◌, length, None, OnOk, if◌then◌else◌};
 ghost use Rattle.std.specs.Str.{IsUtf8, is_utf8};
 ghost use Rattle.host_script.specs.Faults.{Gives};
 ghost use Rattle.host_script.specs.Words.{lines_of};
 ghost use Rattle.host_script.specs.Names.{named};
 ghost use Rattle.host_script.specs.Commands.{no_lines, cells_of, with_isolate, with_named, with_context, with_call, with_wait};
-ghost use Rattle.host_script.specs.HostText.{is_skipped, unless_bad, with_text, with_command, with_line, command_line};
+ghost use Rattle.host_script.specs.HostText.{is_skipped, unless_bad, with_text, with_command, with_line};
 ghost use Rattle.host_script.specs.Steps.{Goes};
 
 use crate::commands::{CommandWord, command_of};
