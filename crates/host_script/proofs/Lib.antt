@@ -6,3 +6,4 @@ pub mod ScriptLemmas
 pub mod WholeLemmas
 pub mod RuleLemmas
 pub mod EndLemmas
+pub mod WordLemmas

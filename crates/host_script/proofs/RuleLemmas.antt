@@ -5,6 +5,7 @@ use Rattle.std.specs.Map.{lookup}
 use Rattle.std.specs.Option.{option_map, option_map_or, option_and_then}
 use Rattle.std.specs.Str.{bytes_eq, is_utf8}
 use Rattle.std.proofs.lemmas.Bool.Decides.{nat_tests}
+use Rattle.ivm_text.specs.Text.{units_of}
 use Rattle.ivm_text.specs.declared.copies.Leaf.{Leaf}
 use Rattle.ivm_text.specs.declared.copies.Leaf.TheVariants.{Undefined, Null, Bool as Boolean, Num}
 use Rattle.ivm_text.specs.declared.copies.Want.TheVariants.{Value}
@@ -21,7 +22,7 @@ use Rattle.host_script.specs.declared.names.Named.{Named}
 use Rattle.host_script.specs.declared.names.Named.TheVariants.{Isolate, Context as ContextLabel, Call}
 use Rattle.host_script.specs.declared.text.Text.{Text}
 use Rattle.host_script.specs.declared.text.Text.TheVariants.{Missing, Open, Given}
-use Rattle.host_script.specs.Commands.{no_lines, cells_of, has_words, with_context, with_call, isolate_line, context_line, eval_text, eval_line, get_line, value_of, key_of, set_text, set_line, dispose_line, wait_line}
+use Rattle.host_script.specs.Commands.{no_lines, cells_of, has_words, with_context, with_call, isolate_line, context_line, eval_text, eval_line, get_line, value_of, set_text, set_line, dispose_line, wait_line}
 use Rattle.host_script.specs.Faults.{◌>>=◌, fail}
 use Rattle.host_script.specs.HostText.{command_line, command_of, can_have_text, unless_bad, with_text, with_command, with_line, with_lines, is_skipped}
 use Rattle.host_script.specs.Literals.{literal_of, plain_literal, negative, number_of, lone_word, skip_spaces}
@@ -138,10 +139,6 @@ value_holds n text some = by (literal_of text) (primitive_literal text)
     by None p = some
     by (Some leaf) p = p
 
-key_holds : (n : ℕ) (word : List ℕ) → 1 ≤ n → Holds (λ key. Unit {0}) (key_of n word)
-unfolding key_of
-key_holds n word some = holds_if (λ key. Unit {0}) (is_utf8 word) _ _ (λ _. tt) (λ _. some)
-
 -- ---- commands
 
 -- a new command stands at the end
@@ -203,8 +200,7 @@ get_line_holds n draft words text some sound =
     holds_if IsSound (not (has_words 3 words text)) _ _ (λ _. some) (λ _.
     holds_then (IsNew draft) IsSound (new_name n draft.names (word 0 words)) _ (new_name_holds n draft (word 0 words) some) (λ label new.
     holds_then (MakesContext draft.script.commands (length draft.script.commands)) IsSound (context_named n draft.names (word 1 words)) _ (context_holds n draft (word 1 words) some sound) (λ context made.
-    holds_then (λ key. Unit {0}) IsSound (key_of n (word 2 words)) _ (key_holds n (word 2 words) some) (λ key _.
-    sound_call draft label (Get context key Value) (Call (length draft.script.commands)) sound new refl (made, refl) (made_call draft label (Get context key Value) refl)))))
+    sound_call draft label (Get context (units_of (word 2 words)) Value) (Call (length draft.script.commands)) sound new refl (made, refl) (made_call draft label (Get context (units_of (word 2 words)) Value) refl))))
 
 set_line_holds : (n : ℕ) (draft : Draft) (words : List ℕ) (text : Option (List ℕ)) → 1 ≤ n → IsSound draft → Holds IsSound (set_line n draft words text)
 unfolding set_line
@@ -214,9 +210,8 @@ set_line_holds n draft words text some sound =
     holds_then (IsNew draft) IsSound (new_name n draft.names (word 0 words)) _ (new_name_holds n draft (word 0 words) some) (λ label new.
     holds_then (MakesContext draft.script.commands (length draft.script.commands)) IsSound (context_named n draft.names (word 1 words)) _ (context_holds n draft (word 1 words) some sound) (λ context made.
     holds_then IsPrimitiveLeaf IsSound (value_of n t) _ (value_holds n t some) (λ root primitive.
-    holds_then (λ key. Unit {0}) IsSound (key_of n (word 2 words)) _ (key_holds n (word 2 words) some) (λ key _.
-    sound_call draft label (Set context key (Literal (record { nodes = []; root = root }))) (Call (length draft.script.commands)) sound new refl (made, (refl, primitive))
-    (made_call draft label (Set context key (Literal (record { nodes = []; root = root }))) refl))))))) some
+    sound_call draft label (Set context (units_of (word 2 words)) (Literal (record { nodes = []; root = root }))) (Call (length draft.script.commands)) sound new refl (made, (refl, primitive))
+    (made_call draft label (Set context (units_of (word 2 words)) (Literal (record { nodes = []; root = root }))) refl)))))) some
 
 wait_line_holds : (n : ℕ) (draft : Draft) (words : List ℕ) (text : Option (List ℕ)) → 1 ≤ n → IsSound draft → Holds IsSound (wait_line n draft words text)
 unfolding wait_line

@@ -2,7 +2,6 @@
 -- This project's own; docs/HOST.md, "Commands".
 use Rattle.std.specs.Prelude.{ℕ, ◌+◌, ◌==◌, ◌&&◌, Bool, List, [], ◌∷◌, ◌++◌, length, map, sum, not, nat_le, nat_lt, is_none, if◌then◌else◌, Option, None, Some, Result, Ok}
 use Rattle.std.specs.Option.{option_map_or}
-use Rattle.std.specs.Str.{is_utf8}
 use Rattle.ivm_text.specs.Text.{units_of}
 use Rattle.ivm_text.specs.declared.copies.Leaf.{Leaf}
 use Rattle.ivm_text.specs.declared.copies.Want.TheVariants.{Value}
@@ -13,7 +12,7 @@ use Rattle.host_syntax.specs.declared.script.What.{What}
 use Rattle.host_syntax.specs.declared.script.What.TheVariants.{Declare, Context, Eval, Get, Set, Dispose, Wait}
 use Rattle.host_script.specs.declared.draft.Draft.{Draft}
 use Rattle.host_script.specs.declared.fault.HostFault.{HostFault}
-use Rattle.host_script.specs.declared.fault.HostKind.TheVariants.{BadUtf8, BadWords, BadLiteral, TooManyIsolates, TotalCells}
+use Rattle.host_script.specs.declared.fault.HostKind.TheVariants.{BadWords, BadLiteral, TooManyIsolates, TotalCells}
 use Rattle.host_script.specs.declared.names.Named.{Named}
 use Rattle.host_script.specs.declared.names.Named.TheVariants.{Isolate, Context as ContextLabel, Call}
 use Rattle.host_script.specs.Faults.{◌>>=◌, fail}
@@ -115,18 +114,13 @@ eval_text n draft words text =
 unfoldable pub eval_line : ℕ → Draft → List ℕ → Option (List ℕ) → Result Draft HostFault
 eval_line n draft words text = option_map_or (eval_text n draft words) text (fail n BadWords)
 
--- the key that a word of line n is: the word itself, which is UTF-8 wherever its line is
-unfoldable pub key_of : ℕ → List ℕ → Result (List ℕ) HostFault
-key_of n word = if is_utf8 word then Ok (units_of word) else fail n BadUtf8
-
--- `get LABEL CONTEXT KEY`
+-- `get LABEL CONTEXT KEY`; the key is the word itself
 unfoldable pub get_line : ℕ → Draft → List ℕ → Option (List ℕ) → Result Draft HostFault
 get_line n draft words text =
     if not (has_words 3 words text) then fail n BadWords
     else (new_name n draft.names (word 0 words) >>= λ label.
     context_named n draft.names (word 1 words) >>= λ context.
-    key_of n (word 2 words) >>= λ key.
-    Ok (with_call draft label (Get context key Value)))
+    Ok (with_call draft label (Get context (units_of (word 2 words)) Value)))
 
 -- the primitive that the text of a `set` on line n is
 abbrev pub value_of : ℕ → List ℕ → Result Leaf HostFault
@@ -139,8 +133,7 @@ set_text n draft words text =
     else (new_name n draft.names (word 0 words) >>= λ label.
     context_named n draft.names (word 1 words) >>= λ context.
     value_of n text >>= λ root.
-    key_of n (word 2 words) >>= λ key.
-    Ok (with_call draft label (Set context key (Literal (record { nodes = []; root = root })))))
+    Ok (with_call draft label (Set context (units_of (word 2 words)) (Literal (record { nodes = []; root = root })))))
 
 -- `set LABEL CONTEXT KEY TEXT`
 unfoldable pub set_line : ℕ → Draft → List ℕ → Option (List ℕ) → Result Draft HostFault

@@ -1,7 +1,9 @@
 //! The commands, each in one function.
-ghost use Rattle.std.specs.Prelude.{◌≡◌};
+ghost use Rattle.std.specs.Prelude.{◌≡◌, IfOk};
+ghost use Rattle.std.specs.Str.{IsUtf8};
+ghost use Rattle.ivm_text.specs.Text.{units_of};
 ghost use Rattle.host_script.specs.Faults.{Gives};
-ghost use Rattle.host_script.specs.Commands.{key_of, isolate_line, context_line, eval_line, get_line, set_line, dispose_line, wait_line};
+ghost use Rattle.host_script.specs.Commands.{isolate_line, context_line, eval_line, get_line, set_line, dispose_line, wait_line};
 ghost use Rattle.host_script.specs.HostText.{command_of, can_have_text, command_line};
 
 use crate::draft::{CELLS, Draft};
@@ -10,7 +12,7 @@ use crate::literal::literal;
 use crate::words::words_of;
 use crate::{HostArgument, HostFault, HostKind, What};
 use item_list::Items;
-use ivm_text::{Bytes, Copy, TextFault, Units, Want};
+use ivm_text::{Bytes, Copy, NoMemory, TextFault, Units, Want};
 use std::alloc::Global;
 
 const MOST_ISOLATES: u32 = 64;
@@ -76,14 +78,14 @@ pub(crate) fn command_of(word: &[u8]) -> Option<CommandWord>
 }
 
 // The key that a word is.
-#[tactic(auto, using(crate::proofs::NameLemmas::utf8_yes, crate::proofs::NameLemmas::utf8_no), unfolding(crate::specs::Commands::key_of))]
-fn key_of(alloc: Global, number: u32, word: &[u8]) -> Result<Units, HostFault>
-    ensures { Gives (λ key. key) result (key_of number word.now) }
+fn key_of(alloc: Global, word: &[u8]) -> Result<Units, NoMemory>
+    requires { IsUtf8 word.now }
+    ensures { IfOk result (λ key. key ≡ units_of word.now) }
 {
     match Units::from_utf8(alloc, word) {
         Ok(key) => Ok(key),
-        Err(TextFault::BadUtf8(_)) => Err(at(number, HostKind::BadUtf8)),
-        Err(TextFault::NoMemory) => Err(HostFault::NoMemory),
+        Err(TextFault::NoMemory) => Err(NoMemory),
+        Err(TextFault::BadUtf8(_)) => unreachable!(),
     }
 }
 
@@ -98,6 +100,7 @@ impl Draft {
         words: &[u8],
         text: Option<Bytes>,
     ) -> Result<(), HostFault>
+        requires { IsUtf8 words.now }
         ensures { Gives (λ _. self.new) result (command_line command number self.old words.now text) }
     {
         match command {
@@ -194,6 +197,7 @@ impl Draft {
         words: &[u8],
         text: Option<Bytes>,
     ) -> Result<(), HostFault>
+        requires { IsUtf8 words.now }
         ensures { Gives (λ _. self.new) result (get_line number self.old words.now text) }
     {
         let words = words_of(words);
@@ -202,7 +206,7 @@ impl Draft {
         }
         let label = self.names.new_name(alloc, number, words.first)?;
         let target = self.names.context(alloc, number, words.second)?;
-        let key = key_of(alloc, number, words.third)?;
+        let key = key_of(alloc, words.third)?;
         let want = Want::Value;
         self.add_call(alloc, label, What::Get { target, key, want })
     }
@@ -216,6 +220,7 @@ impl Draft {
         words: &[u8],
         text: Option<Bytes>,
     ) -> Result<(), HostFault>
+        requires { IsUtf8 words.now }
         ensures { Gives (λ _. self.new) result (set_line number self.old words.now text) }
     {
         let words = words_of(words);
@@ -230,7 +235,7 @@ impl Draft {
         let Some(root) = literal(text.as_slice()) else {
             return Err(at(number, HostKind::BadLiteral));
         };
-        let key = key_of(alloc, number, words.third)?;
+        let key = key_of(alloc, words.third)?;
         let nodes = Items::new(alloc);
         let value = HostArgument::Literal(Copy { nodes, root });
         self.add_call(alloc, label, What::Set { target, key, value })

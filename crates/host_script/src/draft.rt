@@ -1,11 +1,11 @@
 //! A script that is being read, and what one line adds to it.
-ghost use Rattle.std.specs.Prelude.{◌≡◌, ℕ, ◌+◌, ◌-◌, ◌<◌, ◌≤◌, ◌∷◌, ◌++◌, length, None, Some, IfOk, OnOk, map, sum, if◌then◌else◌};
-ghost use Rattle.std.specs.Str.{is_utf8};
+ghost use Rattle.std.specs.Prelude.{◌≡◌, ℕ, ◌+◌, ◌-◌, ◌≤◌, length, None, OnOk, if◌then◌else◌};
+ghost use Rattle.std.specs.Str.{IsUtf8, is_utf8};
 ghost use Rattle.host_script.specs.Faults.{Gives};
 ghost use Rattle.host_script.specs.Words.{lines_of};
 ghost use Rattle.host_script.specs.Names.{named};
 ghost use Rattle.host_script.specs.Commands.{no_lines, cells_of, with_isolate, with_named, with_context, with_call, with_wait};
-ghost use Rattle.host_script.specs.HostText.{is_skipped, unless_bad, with_text, with_command, with_line, command_line};
+ghost use Rattle.host_script.specs.HostText.{is_skipped, unless_bad, with_text, with_command, with_line};
 ghost use Rattle.host_script.specs.Steps.{Goes};
 
 use crate::commands::{CommandWord, command_of};
@@ -174,6 +174,7 @@ impl Draft {
         words: &[u8],
         text: Text,
     ) -> Result<(), HostFault>
+        requires { IsUtf8 words.now }
         ensures { (taken : ℕ) → Gives (λ _. (self.new, taken)) result (with_text command number self.old words.now text taken) }
     {
         match text {
@@ -187,7 +188,7 @@ impl Draft {
     }
 
     // Adds the command of a line, and reads the lines after it that belong to its text.
-    #[tactic(auto, unfolding(crate::specs::HostText::with_command))]
+    #[tactic(auto, using(crate::proofs::WordLemmas::parts_utf8), unfolding(crate::specs::HostText::with_command))]
     fn command(
         &mut self,
         alloc: Global,

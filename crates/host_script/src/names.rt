@@ -1,5 +1,5 @@
 //! The names that a script has given so far.
-ghost use Rattle.std.specs.Prelude.{◌≡◌, [], ◌∷◌, ◌++◌, None, IfOk, OnOk};
+ghost use Rattle.std.specs.Prelude.{◌≡◌, [], ◌∷◌, ◌++◌, None, IfOk};
 ghost use Rattle.host_script.specs.Faults.{Gives};
 ghost use Rattle.host_script.specs.Names.{named, new_name, isolate_named, context_named, call_named};
 

@@ -1,5 +1,5 @@
 //! A host script, read from its bytes.
-ghost use Rattle.std.specs.Prelude.{◌≡◌, ◌<◌, ◌↔◌, length, IfOk, IsErrOf};
+ghost use Rattle.std.specs.Prelude.{◌<◌, ◌↔◌, length, IfOk, IsErrOf};
 ghost use Rattle.host_syntax.specs.Whole.{IsWhole};
 ghost use Rattle.host_script.specs.HostText.{host_of};
 ghost use Rattle.host_script.specs.Script.{HasNames};

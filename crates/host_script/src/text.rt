@@ -1,5 +1,5 @@
 //! The text at the end of a command, and the words in front of it.
-ghost use Rattle.std.specs.Prelude.{◌≡◌, ℕ, ◌+◌, ◌-◌, ◌≤◌, false, length, drop, None, Some, IfNone, IfSome, IfOk, OnOk, MatchOption};
+ghost use Rattle.std.specs.Prelude.{◌≡◌, ◌+◌, ◌-◌, ◌≤◌, false, length, drop, None, Some, OnOk, MatchOption};
 ghost use Rattle.std.specs.Str.{is_utf8};
 ghost use Rattle.host_script.specs.Words.{lines_of};
 ghost use Rattle.host_script.specs.Texts.{begins_text, text_place, text_here, end_word, text_of};
