@@ -1,2 +1,7 @@
 pub mod Shape
 pub mod Tree
+pub mod Order
+pub mod Names
+pub mod Faults
+pub mod Early
+pub mod Noted
