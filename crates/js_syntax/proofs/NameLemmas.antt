@@ -20,8 +20,8 @@ apart false own shared mine x y = refl
 apart true false shared mine x y = by shared mine
   where
     by : (shared mine : Bool)
-       → ((true && not (shared && (mine && false))) || (x || (y && not (shared && mine))))
-       ≡ (((true && not false) || x) || (((true && false) || y) && not (shared && mine)))
+        → ((true && not (shared && (mine && false))) || (x || (y && not (shared && mine))))
+        ≡ (((true && not false) || x) || (((true && false) || y) && not (shared && mine)))
     by true true = refl
     by true false = refl
     by false mine = refl
@@ -85,7 +85,7 @@ has_equal (key ∷ keys) more name same has = by (pointwise nat_eq more key) ref
     by : (b : Bool) → pointwise nat_eq more key ≡ b → (has_key keys more ≡ true → has_key keys name ≡ true) → has_key (key ∷ keys) name ≡ true
     by true e rest = ap (λ b. b || has_key keys name) (nat_list_eq_equiv.congr name more key same ∙ e)
     by false e rest =
-      ap (λ b. pointwise nat_eq name key || b) (rest (sym (ap (λ b. b || has_key keys more) e) ∙ has)) ∙ or_swap (pointwise nat_eq name key) true
+        ap (λ b. pointwise nat_eq name key || b) (rest (sym (ap (λ b. b || has_key keys more) e) ∙ has)) ∙ or_swap (pointwise nat_eq name key) true
 
 -- a name is among the keys with one more where it is that one, or was among them
 has_with_key : (keys : List (List ℕ)) (more name : List ℕ) → has_key (with_key keys more) name ≡ (pointwise nat_eq name more || has_key keys name)
@@ -95,28 +95,36 @@ has_with_key keys more name = by (has_key keys more) (pointwise nat_eq name more
     by true true e f = has_equal keys more name f e
     by true false e f = refl
     by false same e f =
-      list_any-append (pointwise nat_eq name) keys (more ∷ [])
-      ∙ (ap (λ b. has_key keys name || b) (or_false (pointwise nat_eq name more))
-      ∙ (or_swap (has_key keys name) (pointwise nat_eq name more)
-      ∙ ap (λ b. b || has_key keys name) f))
+        list_any-append (pointwise nat_eq name) keys (more ∷ [])
+        ∙ (ap (λ b. has_key keys name || b) (or_false (pointwise nat_eq name more))
+        ∙ (or_swap (has_key keys name) (pointwise nat_eq name more)
+        ∙ ap (λ b. b || has_key keys name) f))
 
 keeps_more : (own : Bool) (keys : List (List ℕ)) (earlier : List Declared) (it : Declared) → it.by_function ≡ own → Keeps own keys earlier → Keeps own (with_key keys (it.name)) (it ∷ earlier)
-keeps_more true keys earlier it is kept = record { keeps = λ name.
-    has_with_key keys (it.name) name
-    ∙ (ap (λ b. pointwise nat_eq name (it.name) || b) (kept.keeps name)
-    ∙ sym (ap (λ b. (pointwise nat_eq name (it.name) && b) || any_of true name earlier) is ∙ ap (λ b. b || any_of true name earlier) (and_true (pointwise nat_eq name (it.name))))) }
-keeps_more false keys earlier it is kept = record { keeps = λ name.
-    has_with_key keys (it.name) name
-    ∙ (ap (λ b. pointwise nat_eq name (it.name) || b) (kept.keeps name)
-    ∙ sym (ap (λ b. (pointwise nat_eq name (it.name) && not b) || any_of false name earlier) is ∙ ap (λ b. b || any_of false name earlier) (and_true (pointwise nat_eq name (it.name))))) }
+keeps_more true keys earlier it is kept = record {
+  keeps = λ name.
+      has_with_key keys (it.name) name
+      ∙ (ap (λ b. pointwise nat_eq name (it.name) || b) (kept.keeps name)
+      ∙ sym (ap (λ b. (pointwise nat_eq name (it.name) && b) || any_of true name earlier) is ∙ ap (λ b. b || any_of true name earlier) (and_true (pointwise nat_eq name (it.name)))));
+}
+keeps_more false keys earlier it is kept = record {
+  keeps = λ name.
+      has_with_key keys (it.name) name
+      ∙ (ap (λ b. pointwise nat_eq name (it.name) || b) (kept.keeps name)
+      ∙ sym (ap (λ b. (pointwise nat_eq name (it.name) && not b) || any_of false name earlier) is ∙ ap (λ b. b || any_of false name earlier) (and_true (pointwise nat_eq name (it.name)))));
+}
 
 keeps_same : (own : Bool) (keys : List (List ℕ)) (earlier : List Declared) (it : Declared) → it.by_function ≡ not own → Keeps own keys earlier → Keeps own keys (it ∷ earlier)
-keeps_same true keys earlier it is kept = record { keeps = λ name.
-    kept.keeps name
-    ∙ sym (ap (λ b. (pointwise nat_eq name (it.name) && b) || any_of true name earlier) is ∙ ap (λ b. b || any_of true name earlier) (and_false (pointwise nat_eq name (it.name)))) }
-keeps_same false keys earlier it is kept = record { keeps = λ name.
-    kept.keeps name
-    ∙ sym (ap (λ b. (pointwise nat_eq name (it.name) && not b) || any_of false name earlier) is ∙ ap (λ b. b || any_of false name earlier) (and_false (pointwise nat_eq name (it.name)))) }
+keeps_same true keys earlier it is kept = record {
+  keeps = λ name.
+      kept.keeps name
+      ∙ sym (ap (λ b. (pointwise nat_eq name (it.name) && b) || any_of true name earlier) is ∙ ap (λ b. b || any_of true name earlier) (and_false (pointwise nat_eq name (it.name))));
+}
+keeps_same false keys earlier it is kept = record {
+  keeps = λ name.
+      kept.keeps name
+      ∙ sym (ap (λ b. (pointwise nat_eq name (it.name) && not b) || any_of false name earlier) is ∙ ap (λ b. b || any_of false name earlier) (and_false (pointwise nat_eq name (it.name))));
+}
 
 -- after a name the keys are those of the names with it
 record Kept (others functions : List (List ℕ)) (earlier : List Declared) : Type 0 where

@@ -1,5 +1,5 @@
 -- What is noted beside the nodes is what is told of their trees.
-use Rattle.std.proofs.Common.{◌≡◌, ℕ, zero, suc, ◌+◌, ◌<◌, ◌≤◌, Bool, true, false, List, [], ◌∷◌, ◌++◌, length, Option, Some, None, slice_get, if◌then◌else◌, refl, ap, subst, sym, ◌∙◌, arith, inl, inr, length-append, IfSome, IfNone}
+use Rattle.std.proofs.Common.{◌≡◌, ℕ, zero, suc, ◌+◌, ◌-◌, ◌<◌, ◌≤◌, Bool, true, false, List, [], ◌∷◌, ◌++◌, length, Option, Some, None, slice_get, if◌then◌else◌, refl, ap, subst, sym, ◌∙◌, arith, inl, inr, length-append, IfSome, IfNone}
 use Rattle.std.proofs.lemmas.List.{append-nil}
 use Rattle.std.proofs.lemmas.Option.{slice_get_within, slice_get_cases}
 use Rattle.js_syntax.specs.declared.kind.Kind.{Kind}
@@ -13,10 +13,9 @@ use Rattle.js_syntax.specs.Shape.{AreBelow}
 use Rattle.js_syntax.specs.Tree.{Head, Trees, nothing, tree, AreTrees, no_trees, some_trees, head_of, IsTreeOf}
 use Rattle.js_syntax.specs.Names.{named, own_name, declares, declared_in, is_body, is_block, body_list, block_list, catch_list, must_differ, may_share, twice}
 use Rattle.js_syntax.specs.Faults.{bad_target, own_faults, faults_of, within, stray}
-use Rattle.js_syntax.specs.Order.{earlier_of, least}
-use Rattle.js_syntax.specs.Early.{outside, early_fault, HasEarlyFault, HasNoEarlyFault}
-use Rattle.js_syntax.specs.Noted.{declares_at, declared_at, body_kids, body_at, block_kids, block_at, catch_at, differ_at, target_fault, target_at, fault_in, noted_fault, parts_fault, own_fault, fault_with, Tells, AreNoted}
-use Rattle.js_syntax.proofs.OrderLemmas.{earlier_assoc, least_append}
+use Rattle.js_syntax.specs.Noted.{earlier_of, least, declares_found, declared_at, body_kids, body_at, block_kids, block_at, catch_at, differ_at, target_fault, target_at, fault_in, noted_fault, parts_fault, own_fault, fault_with, Tells, AreNoted}
+use Rattle.js_syntax.specs.Early.{outside, HasEarlyFault, HasNoEarlyFault}
+use Rattle.js_syntax.proofs.OrderLemmas.{earlier_assoc, least_append, least_none, least_is}
 use Rattle.js_syntax.proofs.TreeLemmas.{get_more, get_less, get_last, trees_more, tree_unique}
 
 -- ---- names
@@ -31,8 +30,8 @@ declared_trees : (functions : Bool) (nodes : List Node) {ns : List ℕ} {t : Tre
 declared_trees functions nodes no_trees = refl
 declared_trees functions nodes (some_trees {n = n} {ns = ns} {node = node} {rest = rs} here kids rest) =
     let e : declared_in functions rs ≡ declared_at functions nodes ns = declared_trees functions nodes rest in
-    let f : declares functions (node.kind) (head_of n node) ≡ declares_at functions (slice_get nodes n) = rw here (declares_numbered functions (node.kind) n 0 node) in
-    ap (λ a. a ++ declared_in functions rs) f ∙ ap (λ b. declares_at functions (slice_get nodes n) ++ b) e
+    let f : declares functions (node.kind) (head_of n node) ≡ declares_found functions (slice_get nodes n) = rw here (declares_numbered functions (node.kind) n 0 node) in
+    ap (λ a. a ++ declared_in functions rs) f ∙ ap (λ b. declares_found functions (slice_get nodes n) ++ b) e
 
 choose_trees : (nodes : List Node) (b : Bool) (ns : List ℕ) (t : Trees) → AreTrees nodes ns t → AreTrees nodes (if b then ns else []) (if b then t else nothing)
 choose_trees nodes true ns t a = a
@@ -77,8 +76,8 @@ own_told around nodes k node t a =
     let targets = target_at (node.kind) nodes (node.kids) in
     let names = twice (may_share (node.kind)) [] (differ_at (node.kind) nodes node) in
     let e : own_faults around (head_of k node) t ≡ strays ++ (targets ++ names) =
-      ap (λ x. strays ++ (x ++ twice (may_share (node.kind)) [] (must_differ (node.kind) (head_of k node) t))) (target_trees (node.kind) nodes a)
-      ∙ ap (λ x. strays ++ (targets ++ twice (may_share (node.kind)) [] x)) (differ_trees (node.kind) nodes k node t a) in
+    ap (λ x. strays ++ (x ++ twice (may_share (node.kind)) [] (must_differ (node.kind) (head_of k node) t))) (target_trees (node.kind) nodes a)
+    ∙ ap (λ x. strays ++ (targets ++ twice (may_share (node.kind)) [] x)) (differ_trees (node.kind) nodes k node t a) in
     ap least e ∙ (least_append strays (targets ++ names) ∙ ap (λ x. earlier_of (least strays) x) (least_append targets names))
 
 -- ---- faults of the parts
@@ -102,11 +101,11 @@ forest_more nodes noted k ks are within_nodes rest =
       trees = tree (head_of k node) tells.0 (rest.trees);
       are = some_trees e tells.1 (rest.are);
       told = λ around.
-        let inside : List Fault = own_faults around (head_of k node) tells.0 ++ faults_of (within around (node.kind)) tells.0 in
-        ap (λ x. earlier_of (noted_fault x around) (parts_fault noted around ks)) f
-        ∙ (ap (λ x. earlier_of x (parts_fault noted around ks)) (tells.2 around)
-        ∙ (ap (λ x. earlier_of (least inside) x) (rest.told around)
-        ∙ sym (least_append inside (faults_of around (rest.trees)))));
+          let inside : List Fault = own_faults around (head_of k node) tells.0 ++ faults_of (within around (node.kind)) tells.0 in
+          ap (λ x. earlier_of (noted_fault x around) (parts_fault noted around ks)) f
+          ∙ (ap (λ x. earlier_of x (parts_fault noted around ks)) (tells.2 around)
+          ∙ (ap (λ x. earlier_of (least inside) x) (rest.told around)
+          ∙ sym (least_append inside (faults_of around (rest.trees)))));
     }
 
 forest : (nodes : List Node) (noted : List Faults) (ns : List ℕ) → AreNoted nodes noted → AreBelow ns (length nodes) → Told nodes noted ns
@@ -121,16 +120,19 @@ tells_new : (nodes : List Node) (noted : List Faults) (node : Node) (faults : Fa
     → ((around : Around) → fault_in faults around ≡ fault_with nodes noted node around) → Tells nodes (length nodes) node faults
 tells_new nodes noted node faults are below worked =
     let parts = forest nodes noted (node.kids) are below in
-    let k = length nodes in
-    (parts.trees, parts.are, λ around.
-      let strays = least (stray around (node.kind) (node.place)) in
-      let own = own_fault nodes node in
-      let inner = faults_of (within around (node.kind)) (parts.trees) in
-      worked around
-      ∙ (ap (λ x. earlier_of strays (earlier_of own x)) (parts.told (within around (node.kind)))
-      ∙ (sym (earlier_assoc strays own (least inner))
-      ∙ (ap (λ x. earlier_of x (least inner)) (sym (own_told around nodes k node (parts.trees) (parts.are)))
-      ∙ sym (least_append (own_faults around (head_of k node) (parts.trees)) inner)))))
+    let k = length nodes in (
+      parts.trees,
+      parts.are,
+      λ around.
+          let strays = least (stray around (node.kind) (node.place)) in
+          let own = own_fault nodes node in
+          let inner = faults_of (within around (node.kind)) (parts.trees) in
+          worked around
+          ∙ (ap (λ x. earlier_of strays (earlier_of own x)) (parts.told (within around (node.kind)))
+          ∙ (sym (earlier_assoc strays own (least inner))
+          ∙ (ap (λ x. earlier_of x (least inner)) (sym (own_told around nodes k node (parts.trees) (parts.are)))
+          ∙ sym (least_append (own_faults around (head_of k node) (parts.trees)) inner)))),
+    )
 
 tells_more : (nodes more : List Node) (k : ℕ) (node : Node) (faults : Faults) → Tells nodes k node faults → Tells (nodes ++ more) k node faults
 tells_more nodes more k node faults tells = (tells.0, trees_more nodes more tells.1, tells.2)
@@ -146,31 +148,31 @@ noted_last nodes noted node n faults f k len last here beside tells =
     let same_node : node ≡ n = cc in
     let same_faults : faults ≡ f = cc in
     subst (λ (i : ℕ). Tells (nodes ++ node ∷ []) i n f) (sym last)
-      (subst (λ (m : Node). Tells (nodes ++ node ∷ []) (length nodes) m f) same_node
-        (subst (λ (g : Faults). Tells (nodes ++ node ∷ []) (length nodes) node g) same_faults tells))
+    (subst (λ (m : Node). Tells (nodes ++ node ∷ []) (length nodes) m f) same_node
+    (subst (λ (g : Faults). Tells (nodes ++ node ∷ []) (length nodes) node g) same_faults tells))
 
 pub noted_more : (nodes : List Node) (noted : List Faults) (node : Node) (faults : Faults) → AreNoted nodes noted → AreBelow (node.kids) (length nodes)
     → ((around : Around) → fault_in faults around ≡ fault_with nodes noted node around) → AreNoted (nodes ++ node ∷ []) (noted ++ faults ∷ [])
 noted_more nodes noted node faults are below worked = record {
-    len = length_more noted faults ∙ (ap (λ n. n + 1) (are.len) ∙ sym (length_more nodes node));
-    each = λ k n f here beside.
+  len = length_more noted faults ∙ (ap (λ n. n + 1) (are.len) ∙ sym (length_more nodes node));
+  each = λ k n f here beside.
       let len = are.len in
       let inside : k < length (nodes ++ node ∷ []) = slice_get_within (nodes ++ node ∷ []) k n here in
       let more = length_more nodes node in
       elim (slice_get_cases nodes k).1 [
-        inl found ↦
-          let within_nodes : k < length nodes = found.1 in
-          tells_more nodes (node ∷ []) k n f (are.each k n f (get_less nodes node k n here within_nodes) (get_less noted faults k f beside (omega arith)))
-      | inr past ↦
-          noted_last nodes noted node n faults f k len (let at_least : length nodes ≤ k = past.0 in omega arith) here beside
+        | inl found ↦
+            let within_nodes : k < length nodes = found.1 in
+            tells_more nodes (node ∷ []) k n f (are.each k n f (get_less nodes node k n here within_nodes) (get_less noted faults k f beside (omega arith)))
+        | inr past ↦
+            noted_last nodes noted node n faults f k len (let at_least : length nodes ≤ k = past.0 in omega arith) here beside
             (tells_more nodes (node ∷ []) (length nodes) node faults (tells_new nodes noted node faults are below worked))
       ];
-  }
+}
 
 -- ---- the root
 
 told_of_root : (nodes : List Node) (noted : List Faults) (k : ℕ) (faults : Faults) → AreNoted nodes noted → k + 1 ≡ length nodes → slice_get noted k ≡ Some faults
-    → (t : Trees) × IsTreeOf nodes t × (early_fault t ≡ fault_in faults outside)
+    → (t : Trees) × IsTreeOf nodes t × (least (faults_of outside t) ≡ fault_in faults outside)
 told_of_root nodes noted k faults are last beside =
     let (node, here) = some_at nodes k (omega arith) in
     let tells : Tells nodes k node faults = are.each k node faults here beside in
@@ -182,11 +184,17 @@ pub some_told : (nodes : List Node) (noted : List Faults) (k : ℕ) (faults : Fa
 some_told nodes noted k faults None are last beside e = tt
 some_told nodes noted k faults (Some fault) are last beside e =
     let (t, is, told) = told_of_root nodes noted k faults are last beside in
-    (t, is, told ∙ sym e)
+    (t, is, least_is (faults_of outside t) fault (told ∙ sym e))
 
 pub none_told : (nodes : List Node) (noted : List Faults) (k : ℕ) (faults : Faults) (told : Option Fault) → AreNoted nodes noted → k + 1 ≡ length nodes → slice_get noted k ≡ Some faults
     → told ≡ fault_in faults outside → IfNone told (HasNoEarlyFault nodes)
 none_told nodes noted k faults (Some fault) are last beside e = tt
 none_told nodes noted k faults None are last beside e = λ t is.
     let (s, is_tree, told) = told_of_root nodes noted k faults are last beside in
-    ap early_fault (tree_unique nodes t s is is_tree) ∙ (told ∙ sym e)
+    least_none (faults_of outside t) (ap (λ u. least (faults_of outside u)) (tree_unique nodes t s is is_tree) ∙ (told ∙ sym e))
+
+pub root_tree : (nodes : List Node) (noted : List Faults) → AreNoted nodes noted → 0 < length nodes → (t : Trees) × IsTreeOf nodes t
+root_tree nodes noted are some =
+    let (faults, beside) = some_at noted (length nodes - 1) (let len = are.len in omega arith) in
+    let told = told_of_root nodes noted (length nodes - 1) faults are (omega arith) beside in
+    (told.0, told.1)

@@ -6,9 +6,8 @@ use Rattle.js_syntax.specs.declared.around.Around.{Around}
 use Rattle.js_syntax.specs.declared.fault.Fault.{Fault}
 use Rattle.js_syntax.specs.declared.faults.Faults.{Faults}
 use Rattle.js_syntax.specs.declared.listing.Declared.{Declared}
-use Rattle.js_syntax.specs.Order.{earlier_of, least}
-use Rattle.js_syntax.specs.Names.{named}
-use Rattle.js_syntax.specs.Noted.{noted_fault, parts_fault, declares_at, declared_at, twice_fault, twice_keys, with_key}
+use Rattle.js_syntax.specs.Noted.{earlier_of, least, noted_fault, parts_fault, declares_found, declared_at, twice_fault, twice_keys, with_key}
+use Rattle.js_syntax.specs.Names.{twice}
 use Rattle.js_syntax.proofs.OrderLemmas.{earlier_assoc, earlier_none, least_append}
 
 -- what is left of a list behind its first element
@@ -51,3 +50,8 @@ pub twice_end : (shared : Bool) (others functions : List (List ℕ)) (start told
     → start ≡ earlier_of told (least (twice_keys shared others functions left)) → told ≡ start
 twice_end shared others functions start told [] none before = sym (before ∙ earlier_none told)
 twice_end shared others functions start told (x ∷ xs) none before = absurd (omega arith)
+
+pub twice_short : (shared : Bool) (list : List Declared) → length list < 2 → None ≡ least (twice shared [] list)
+twice_short shared [] short = refl
+twice_short shared (x ∷ []) short = refl
+twice_short shared (x ∷ y ∷ zs) short = absurd (omega arith)

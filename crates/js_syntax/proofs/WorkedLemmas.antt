@@ -6,8 +6,7 @@ use Rattle.js_syntax.specs.declared.fault.Fault.{Fault}
 use Rattle.js_syntax.specs.declared.faults.Faults.{Faults}
 use Rattle.js_syntax.specs.declared.listing.Declared.{Declared}
 use Rattle.js_syntax.specs.Names.{may_share, twice}
-use Rattle.js_syntax.specs.Order.{earlier_of, least}
-use Rattle.js_syntax.specs.Noted.{target_at, differ_at, fault_in, own_fault, fault_over, fault_with}
+use Rattle.js_syntax.specs.Noted.{earlier_of, least, target_at, differ_at, fault_in, own_fault, fault_over, fault_with}
 
 pub own_worked : (nodes : List Node) (node : Node) (kids : List ℕ) (list : List Declared) (shared : Bool) (own target names : Option Fault)
     → kids ≡ node.kids → list ≡ differ_at (node.kind) nodes node → shared ≡ may_share (node.kind)
@@ -16,7 +15,7 @@ own_worked nodes node kids list shared own target names is_kids is_list is_share
     is_own
     ∙ (ap (λ x. earlier_of x names) (is_target ∙ ap (λ ks. least (target_at (node.kind) nodes ks)) is_kids)
     ∙ ap (λ x. earlier_of (least (target_at (node.kind) nodes (node.kids))) x)
-        (is_names ∙ (ap (λ s. least (twice s [] list)) is_shared ∙ ap (λ l. least (twice (may_share (node.kind)) [] l)) is_list)))
+    (is_names ∙ (ap (λ s. least (twice s [] list)) is_shared ∙ ap (λ l. least (twice (may_share (node.kind)) [] l)) is_list)))
 
 pub all_worked : (nodes : List Node) (noted : List Faults) (node : Node) (own a b c d : Option Fault) → own ≡ own_fault nodes node
     → a ≡ fault_over noted node own (record { in_function = false; in_loop = false }) → b ≡ fault_over noted node own (record { in_function = false; in_loop = true })

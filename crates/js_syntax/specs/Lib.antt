@@ -5,3 +5,4 @@ pub mod Names
 pub mod Faults
 pub mod Early
 pub mod Noted
+pub mod Table

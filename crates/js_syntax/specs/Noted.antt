@@ -1,6 +1,6 @@
 -- What a script notes beside its nodes. No caller needs this.
 -- This project's own.
-use Rattle.std.specs.Prelude.{◌≡◌, ℕ, Bool, true, false, ◌&&◌, ◌||◌, not, nat_eq, List, [], ◌∷◌, ◌++◌, length, slice_get, Option, None, Some, if◌then◌else◌}
+use Rattle.std.specs.Prelude.{◌≡◌, ℕ, Bool, true, false, ◌&&◌, ◌||◌, not, ltb, eqb, nat_eq, List, [], ◌∷◌, ◌++◌, length, slice_get, Option, None, Some, if◌then◌else◌}
 use Rattle.std.specs.List.{list_any}
 use lib.Pointwise.{pointwise}
 use Rattle.js_syntax.specs.declared.kind.Kind.{Kind}
@@ -14,17 +14,42 @@ use Rattle.js_syntax.specs.declared.listing.Declared.{Declared}
 use Rattle.js_syntax.specs.Tree.{Trees, AreTrees, head_of}
 use Rattle.js_syntax.specs.Names.{named, own_name, declares, is_body, is_block, may_share, twice}
 use Rattle.js_syntax.specs.Faults.{fault, has_target, is_target, own_faults, faults_of, within, stray}
-use Rattle.js_syntax.specs.Order.{earlier_of, least}
+use Rattle.js_syntax.specs.Order.{number_of}
+
+-- ---- the fault that is told
+
+abbrev pub is_before : Fault → Fault → Bool
+is_before a b = ltb (a.place) (b.place) || (eqb (a.place) (b.place) && ltb (number_of (a.kind)) (number_of (b.kind)))
+
+-- of two faults that may be there
+abbrev pub earlier_of : Option Fault → Option Fault → Option Fault
+earlier_of None other = other
+earlier_of (Some a) None = Some a
+earlier_of (Some a) (Some b) = if is_before b a then Some b else Some a
+
+-- of a list of them
+abbrev pub least : List Fault → Option Fault
+least [] = None
+least (fault ∷ faults) = earlier_of (Some fault) (least faults)
 
 -- ---- names, read from the nodes
 
-abbrev pub declares_at : Bool → Option Node → List Declared
-declares_at functions None = []
-declares_at functions (Some node) = declares functions (node.kind) (head_of 0 node)
+abbrev pub own_name_of : Bool → Node → List Declared
+own_name_of by_function node = own_name by_function (node.name) (node.name_place)
+
+abbrev pub declares_node : Bool → Node → List Declared
+declares_node functions node = declares functions (node.kind) (head_of 0 node)
+
+abbrev pub declares_found : Bool → Option Node → List Declared
+declares_found functions None = []
+declares_found functions (Some node) = declares_node functions node
+
+abbrev pub declares_at : Bool → List Node → ℕ → List Declared
+declares_at functions nodes k = declares_found functions (slice_get nodes k)
 
 abbrev pub declared_at : Bool → List Node → List ℕ → List Declared
 declared_at functions nodes [] = []
-declared_at functions nodes (k ∷ ks) = declares_at functions (slice_get nodes k) ++ declared_at functions nodes ks
+declared_at functions nodes (k ∷ ks) = declares_at functions nodes k ++ declared_at functions nodes ks
 
 abbrev pub body_kids : Option Node → List ℕ
 body_kids None = []
@@ -65,6 +90,12 @@ has_key keys name = list_any (pointwise nat_eq name) keys
 abbrev pub with_key : List (List ℕ) → List ℕ → List (List ℕ)
 with_key keys name = if has_key keys name then keys else keys ++ name ∷ []
 
+abbrev pub with_function : List (List ℕ) → Declared → List (List ℕ)
+with_function functions it = if it.by_function then with_key functions (it.name) else functions
+
+abbrev pub with_other : List (List ℕ) → Declared → List (List ℕ)
+with_other others it = if it.by_function then others else with_key others (it.name)
+
 abbrev pub clashes_keys : Bool → List (List ℕ) → List (List ℕ) → Declared → Bool
 clashes_keys shared others functions it =
     has_key others (it.name) || (has_key functions (it.name) && not (shared && it.by_function))
@@ -77,7 +108,7 @@ abbrev pub twice_keys : Bool → List (List ℕ) → List (List ℕ) → List De
 twice_keys shared others functions [] = []
 twice_keys shared others functions (it ∷ later) =
     twice_fault shared others functions it
-    ++ twice_keys shared (if it.by_function then others else with_key others (it.name)) (if it.by_function then with_key functions (it.name) else functions) later
+    ++ twice_keys shared (with_other others it) (with_function functions it) later
 
 -- ---- faults, read from what is noted
 
@@ -108,6 +139,9 @@ abbrev pub own_fault : List Node → Node → Option Fault
 own_fault nodes node =
     earlier_of (least (target_at (node.kind) nodes (node.kids))) (least (twice (may_share (node.kind)) [] (differ_at (node.kind) nodes node)))
 
+abbrev pub around_of : Bool → Bool → Around
+around_of in_function in_loop = record { in_function = in_function; in_loop = in_loop }
+
 -- the fault that is told of a node and its parts in such a place, where `own` is that of its own names and targets
 abbrev pub fault_over : List Faults → Node → Option Fault → Around → Option Fault
 fault_over noted node own around =
@@ -116,6 +150,10 @@ fault_over noted node own around =
 -- the fault that is told of a node and its parts, where it stands in such a place
 abbrev pub fault_with : List Node → List Faults → Node → Around → Option Fault
 fault_with nodes noted node around = fault_over noted node (own_fault nodes node) around
+
+-- these are the faults that are worked out for a node over those of the nodes below it
+abbrev pub AreWorkedOut : List Node → List Faults → Node → Faults → Type 0
+AreWorkedOut nodes noted node faults = (around : Around) → fault_in faults around ≡ fault_with nodes noted node around
 
 -- these are the faults that are told of this node and its parts, wherever it stands
 abbrev pub Tells : List Node → ℕ → Node → Faults → Type 0

@@ -1,6 +1,6 @@
 -- Which of several early faults is told.
 -- This project's own: a text has one refusal, the first in it; docs/SCRIPTS.md, "Early faults".
-use Rattle.std.specs.Prelude.{ℕ, Bool, ◌&&◌, ◌||◌, ltb, eqb, List, [], ◌∷◌, Option, None, Some, if◌then◌else◌}
+use Rattle.std.specs.Prelude.{◌≡◌, ℕ, ◌<◌, ◌⊎◌, List, slice_get, Some}
 use Rattle.js_syntax.specs.declared.fault.Fault.{Fault}
 use Rattle.js_syntax.specs.declared.fault.FaultKind.{FaultKind}
 use Rattle.js_syntax.specs.declared.fault.FaultKind.TheVariants.{TwiceDeclared, BadTarget, StrayBreak, StrayReturn}
@@ -13,16 +13,14 @@ number_of StrayBreak = 12
 number_of StrayReturn = 13
 
 -- a fault is told before another where its place is lower, or its place is the same and its number is lower
-abbrev pub is_before : Fault → Fault → Bool
-is_before a b = ltb (a.place) (b.place) || (eqb (a.place) (b.place) && ltb (number_of (a.kind)) (number_of (b.kind)))
+abbrev pub IsBefore : Fault → Fault → Type 0
+IsBefore a b = (a.place < b.place) ⊎ ((a.place ≡ b.place) × (number_of (a.kind) < number_of (b.kind)))
 
--- of two faults that may be there, the one that is told
-abbrev pub earlier_of : Option Fault → Option Fault → Option Fault
-earlier_of None other = other
-earlier_of (Some a) None = Some a
-earlier_of (Some a) (Some b) = if is_before b a then Some b else Some a
+-- the fault is one of these
+abbrev pub IsOneOf : List Fault → Fault → Type 0
+IsOneOf faults fault = (k : ℕ) × (slice_get faults k ≡ Some fault)
 
--- the fault that is told of a list of them; none where the list is empty
-abbrev pub least : List Fault → Option Fault
-least [] = None
-least (fault ∷ faults) = earlier_of (Some fault) (least faults)
+-- the fault that is told of these: it is one of them, and none of them is before it
+pub record IsLeast (faults : List Fault) (fault : Fault) : Type 0 where
+  pub among : IsOneOf faults fault
+  pub first : (other : Fault) → IsOneOf faults other → ¬ IsBefore other fault

@@ -1,7 +1,7 @@
 //! What stands around a form: whether a `break` or a `return` has something to leave.
 ghost use Rattle.std.specs.Prelude.{◌≡◌};
 ghost use Rattle.js_syntax.specs.Faults.{within, stray};
-ghost use Rattle.js_syntax.specs.Order.{least};
+ghost use Rattle.js_syntax.specs.Noted.{least};
 
 use crate::{Fault, FaultKind, Kind};
 

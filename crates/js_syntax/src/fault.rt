@@ -1,6 +1,7 @@
 //! Early faults, and which of two is told.
 ghost use Rattle.std.specs.Prelude.{◌≡◌};
-ghost use Rattle.js_syntax.specs.Order.{number_of, is_before, earlier_of};
+ghost use Rattle.js_syntax.specs.Order.{number_of};
+ghost use Rattle.js_syntax.specs.Noted.{is_before, earlier_of};
 
 use ivm_text::RefusalKind;
 
@@ -36,7 +37,7 @@ impl FaultKind {
 
 impl Fault {
     /// Whether this fault is told before the other: it stands earlier, or there too and has the lower number.
-    pub fn is_before(self, other: Fault) -> bool
+    pub(crate) fn is_before(self, other: Fault) -> bool
         ensures { result ≡ is_before self other }
     {
         self.place < other.place

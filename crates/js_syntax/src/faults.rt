@@ -1,9 +1,7 @@
 //! The early faults of a form and its parts, wherever it stands.
 ghost use Rattle.std.specs.Prelude.{◌≡◌, slice_get, IfOk};
 ghost use Rattle.js_syntax.specs.Faults.{has_target, is_target};
-ghost use Rattle.js_syntax.specs.Noted.{target_at, fault_in, noted_fault, parts_fault, fault_over, fault_with};
-ghost use Rattle.js_syntax.specs.Order.{least};
-ghost use Rattle.js_syntax.specs.declared.around.Around.{Around};
+ghost use Rattle.js_syntax.specs.Noted.{target_at, fault_in, noted_fault, parts_fault, fault_over, around_of, AreWorkedOut, least};
 
 use crate::fault::earlier_of;
 use crate::listing::{may_share, must_differ};
@@ -110,7 +108,7 @@ fn fault_with(
     in_function: bool,
     in_loop: bool,
 ) -> Option<Fault>
-    ensures { result ≡ fault_over noted.now node.now own (record { in_function = in_function; in_loop = in_loop }) }
+    ensures { result ≡ fault_over noted.now node.now own (around_of in_function in_loop) }
 {
     let around = Around {
         in_function,
@@ -127,7 +125,7 @@ pub(crate) fn faults_with(
     noted: &[Faults],
     node: &Node,
 ) -> Result<Faults, NoMemory>
-    ensures { IfOk result (λ faults. (around : Around) → fault_in faults around ≡ fault_with nodes.now noted.now node.now around) }
+    ensures { IfOk result (AreWorkedOut nodes.now noted.now node.now) }
 {
     let names = must_differ(alloc, nodes, node)?;
     let twice = first_twice(alloc, may_share(node.kind), names.as_slice())?;

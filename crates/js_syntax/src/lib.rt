@@ -14,6 +14,7 @@ mod kind;
 mod listing;
 mod node;
 mod script;
+mod shape;
 mod twice;
 
 pub use around::Around;

@@ -1,8 +1,7 @@
 //! Names that must differ in a form, in the order in which they are declared.
 ghost use Rattle.std.specs.Prelude.{◌≡◌, ◌++◌, OnOk, IfOk, length, slice_get, Some, Option, true, false, if◌then◌else◌};
-ghost use Rattle.js_syntax.specs.Names.{named, own_name, declares, is_body, is_block, may_share};
-ghost use Rattle.js_syntax.specs.Noted.{declares_at, declared_at, body_kids, block_kids, body_at, block_at, catch_at, differ_at};
-ghost use Rattle.js_syntax.specs.Tree.{head_of};
+ghost use Rattle.js_syntax.specs.Names.{named, is_body, is_block, may_share};
+ghost use Rattle.js_syntax.specs.Noted.{own_name_of, declares_node, declares_at, declared_at, body_kids, block_kids, body_at, block_at, catch_at, differ_at};
 
 use crate::{Kind, Names, Node, Places};
 use item_list::CloneWhole;
@@ -50,7 +49,7 @@ fn add_own_name(
     node: &Node,
     list: &mut Vec<Declared>,
 ) -> Result<(), NoMemory>
-    ensures { OnOk result (list.new.items ≡ list.old.items ++ own_name by_function node.now.name node.now.name_place) }
+    ensures { OnOk result (list.new.items ≡ list.old.items ++ own_name_of by_function node.now) }
 {
     if let Some(name) = &node.name {
         list.push(Declared {
@@ -69,7 +68,7 @@ fn add_declared(
     node: &Node,
     list: &mut Vec<Declared>,
 ) -> Result<(), NoMemory>
-    ensures { OnOk result (list.new.items ≡ list.old.items ++ declares functions node.now.kind (head_of 0 node.now)) }
+    ensures { OnOk result (list.new.items ≡ list.old.items ++ declares_node functions node.now) }
 {
     match node.kind {
         Kind::Let | Kind::Const => add_names(alloc, &node.names, &node.places, list),
@@ -86,7 +85,7 @@ fn add_declared_at(
     kid: u32,
     list: &mut Vec<Declared>,
 ) -> Result<(), NoMemory>
-    ensures { OnOk result (list.new.items ≡ list.old.items ++ declares_at functions (slice_get nodes.now kid)) }
+    ensures { OnOk result (list.new.items ≡ list.old.items ++ declares_at functions nodes.now kid) }
 {
     match nodes.get(kid as usize) {
         Some(node) => add_declared(alloc, functions, node, list),

@@ -1,10 +1,12 @@
 //! A script as a list of nodes.
 
-ghost use Rattle.std.specs.Prelude.{◌≡◌, ◌+◌, ◌<◌, ◌++◌, [], ◌∷◌, length, slice_get, Some, IfOk, IfSome, IfNone, OnOk, OnErr};
+ghost use Rattle.std.specs.Prelude.{◌≡◌, ◌+◌, ◌<◌, ◌++◌, [], ◌∷◌, length, slice_get, ◌↔◌, IsTrue, Some, IfOk, IfSome, IfNone, OnOk, OnErr};
 ghost use Rattle.js_syntax.specs.Shape.{IsFormed, AreBelow};
+ghost use Rattle.js_syntax.specs.Tree.{Trees, IsTreeOf};
 ghost use Rattle.js_syntax.specs.Early.{HasEarlyFault, HasNoEarlyFault};
 
 use crate::faults::{Faults, faults_with};
+use crate::shape::is_formed;
 use crate::{Around, Fault, Node};
 use item_list::Items;
 use ivm_text::NoMemory;
@@ -47,6 +49,14 @@ impl Script {
         }
     }
 
+    /// Whether a node may be added: its kids are there, and it has what its kind asks for.
+    pub fn may_add(&self, node: &Node) -> bool
+        ensures { IsTrue result ↔ (AreBelow node.now.kids (length self.now) × IsFormed node.now) }
+    {
+        let length = self.nodes.len();
+        node.kids.as_slice().iter().all(|kid| *kid < length) && is_formed(node)
+    }
+
     /// Adds a node, which is the root until the next one is added, and gives its number.
     pub fn add(&mut self, node: Node) -> Result<u32, NoMemory>
         requires kids { AreBelow node.kids (length self.old) }
@@ -57,7 +67,12 @@ impl Script {
         ensures err { OnErr result (self.new ≡ self.old) }
     {
         let number = self.nodes.len();
-        let faults = faults_with(self.alloc, self.nodes.as_slice(), self.noted.as_slice(), &node)?;
+        let faults = faults_with(
+            self.alloc,
+            self.nodes.as_slice(),
+            self.noted.as_slice(),
+            &node,
+        )?;
         self.noted.push(faults)?;
         if let Err(fault) = self.nodes.push(node) {
             let _ = self.noted.pop();
@@ -89,6 +104,15 @@ impl Script {
         ensures { result + 1 ≡ length self.now }
     {
         self.nodes.len() - 1
+    }
+
+    /// A script with a node has a tree, and just one.
+    pub fn one_tree(&self)
+        requires { 0 < length self.now }
+        ensures tree { (t : Trees) × IsTreeOf self.now t }
+        ensures one { (s t : Trees) → IsTreeOf self.now s → IsTreeOf self.now t → s ≡ t }
+    {
+        let _nodes = self.nodes.len();
     }
 
     /// The early fault of the script's tree that stands first, and of two at one place that with the

@@ -1,8 +1,7 @@
 //! Names that are declared twice.
-ghost use Rattle.std.specs.Prelude.{◌≡◌, [], IfOk, OnOk, if◌then◌else◌};
+ghost use Rattle.std.specs.Prelude.{◌≡◌, [], IfOk, OnOk};
 ghost use Rattle.js_syntax.specs.Names.{twice};
-ghost use Rattle.js_syntax.specs.Noted.{clashes_keys, twice_fault, with_key};
-ghost use Rattle.js_syntax.specs.Order.{least};
+ghost use Rattle.js_syntax.specs.Noted.{twice_fault, with_function, with_other, least};
 
 use crate::fault::earlier_of;
 use crate::listing::Declared;
@@ -37,8 +36,8 @@ impl Earlier {
 
     // Notes a name.
     fn note(&mut self, alloc: Global, it: &Declared) -> Result<(), NoMemory>
-        ensures functions { OnOk result (self.new.functions.keys ≡ (if it.now.by_function then with_key self.old.functions.keys it.now.name else self.old.functions.keys)) }
-        ensures others { OnOk result (self.new.others.keys ≡ (if it.now.by_function then self.old.others.keys else with_key self.old.others.keys it.now.name)) }
+        ensures functions { OnOk result (self.new.functions.keys ≡ with_function self.old.functions.keys it.now) }
+        ensures others { OnOk result (self.new.others.keys ≡ with_other self.old.others.keys it.now) }
     {
         let name = it.name.clone_whole(alloc)?;
         if it.by_function {
@@ -58,6 +57,9 @@ pub(crate) fn first_twice(
 ) -> Result<Option<Fault>, NoMemory>
     ensures { IfOk result (λ told. told ≡ least (twice shared [] list.now)) }
 {
+    if list.len() < 2 {
+        return Ok(None);
+    }
     let mut earlier = Earlier {
         functions: IndexSet::new(alloc),
         others: IndexSet::new(alloc),

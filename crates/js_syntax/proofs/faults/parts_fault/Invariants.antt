@@ -1,6 +1,5 @@
 use Rattle.std.proofs.Common.{◌≡◌, length}
-use Rattle.js_syntax.specs.Noted.{parts_fault}
-use Rattle.js_syntax.specs.Order.{earlier_of}
+use Rattle.js_syntax.specs.Noted.{parts_fault, earlier_of}
 use Rattle.js_syntax.proofs.faults.parts_fault.Given as goal
 
 abbrev pub invariant-loop-left : goal.invariant-loop-left

@@ -1,6 +1,5 @@
 use Rattle.std.proofs.Common.{◌≡◌, [], length}
-use Rattle.js_syntax.specs.Noted.{twice_keys}
-use Rattle.js_syntax.specs.Order.{earlier_of, least}
+use Rattle.js_syntax.specs.Noted.{twice_keys, earlier_of, least}
 use Rattle.js_syntax.proofs.twice.first_twice.Given as goal
 
 abbrev pub invariant-loop-left : goal.invariant-loop-left

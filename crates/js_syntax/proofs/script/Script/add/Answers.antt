@@ -12,4 +12,4 @@ invariant_of-self-in_default c =
     let from_zero : AreBelow c.args.node.kids (0 + length c.self.inside.nodes) = subst (AreBelow c.args.node.kids) (omega arith) below in
     let worked : (around : Around) → fault_in c.in_ok-faults.faults around ≡ fault_with c.self.inside.nodes c.self.inside.noted c.args.node around = λ around. c.in_ok-faults.ensures around ∙ (ap (λ nodes. fault_with nodes c.as_slice-2.result.now c.args.node around) c.as_slice.ensures.items ∙ ap (λ noted. fault_with c.self.inside.nodes noted c.args.node around) c.as_slice-2.ensures.items) in
     rw (c.in_default.ensures.ok, c.in_ok-push.ensures.ok)
-      (sound_more 0 c.self.inside.nodes c.args.node c.self.invariant.0 from_zero c.requires.formed, noted_more c.self.inside.nodes c.self.inside.noted c.args.node c.in_ok-faults.faults c.self.invariant.1 below worked)
+    (sound_more 0 c.self.inside.nodes c.args.node c.self.invariant.0 from_zero c.requires.formed, noted_more c.self.inside.nodes c.self.inside.noted c.args.node c.in_ok-faults.faults c.self.invariant.1 below worked)
