@@ -6,7 +6,7 @@ use Rattle.std.proofs.lemmas.Cmp.{nat_list_eq_equiv}
 use lib.Pointwise.{pointwise}
 use Rattle.js_syntax.specs.declared.fault.Fault.{Fault}
 use Rattle.js_syntax.specs.declared.fault.FaultKind.TheVariants.{TwiceDeclared}
-use Rattle.js_syntax.specs.Faults.{fault}
+use Rattle.js_syntax.specs.Order.{fault}
 use Rattle.js_syntax.specs.declared.listing.Declared.{Declared}
 use Rattle.js_syntax.specs.Names.{clashes, twice}
 use Rattle.js_syntax.specs.Noted.{has_key, with_key, clashes_keys, twice_keys}
@@ -36,7 +36,8 @@ apart true true true true x false = refl
 
 -- whether a name was declared before, by functions or otherwise
 abbrev any_of : Bool → List ℕ → List Declared → Bool
-any_of own name earlier = list_any (λ it. pointwise nat_eq name (it.name) && (if own then it.by_function else not (it.by_function))) earlier
+any_of own name earlier =
+    list_any (λ it. pointwise nat_eq name (it.name) && (if own then it.by_function else not (it.by_function))) earlier
 
 -- these keys are the names that were declared before, by functions or otherwise
 record Keeps (own : Bool) (keys : List (List ℕ)) (earlier : List Declared) : Type 0 where
@@ -51,7 +52,8 @@ clashes_apart shared it (other ∷ earlier) =
     ∙ apart same (other.by_function) shared (it.by_function) (any_of false (it.name) earlier) (any_of true (it.name) earlier)
 
 clashes_kept : (shared : Bool) (others functions : List (List ℕ)) (earlier : List Declared) (it : Declared)
-    → Keeps false others earlier → Keeps true functions earlier → clashes_keys shared others functions it ≡ clashes shared it earlier
+    → Keeps false others earlier → Keeps true functions earlier
+    → clashes_keys shared others functions it ≡ clashes shared it earlier
 clashes_kept shared others functions earlier it kept_others kept_functions =
     ap (λ x. x || (has_key functions (it.name) && not (shared && it.by_function))) (kept_others.keeps (it.name))
     ∙ (ap (λ x. any_of false (it.name) earlier || (x && not (shared && it.by_function))) (kept_functions.keeps (it.name))
@@ -78,20 +80,27 @@ and_false true = refl
 and_false false = refl
 
 -- what is equal to a key's equal is a key
-has_equal : (keys : List (List ℕ)) (more name : List ℕ) → pointwise nat_eq name more ≡ true → has_key keys more ≡ true → has_key keys name ≡ true
+has_equal : (keys : List (List ℕ)) (more name : List ℕ) → pointwise nat_eq name more ≡ true
+    → has_key keys more ≡ true → has_key keys name ≡ true
 has_equal [] more name same has = has
-has_equal (key ∷ keys) more name same has = by (pointwise nat_eq more key) refl (λ later. has_equal keys more name same later)
+has_equal (key ∷ keys) more name same has =
+    by (pointwise nat_eq more key) refl (λ later. has_equal keys more name same later)
   where
-    by : (b : Bool) → pointwise nat_eq more key ≡ b → (has_key keys more ≡ true → has_key keys name ≡ true) → has_key (key ∷ keys) name ≡ true
-    by true e rest = ap (λ b. b || has_key keys name) (nat_list_eq_equiv.congr name more key same ∙ e)
+    by : (b : Bool) → pointwise nat_eq more key ≡ b
+        → (has_key keys more ≡ true → has_key keys name ≡ true) → has_key (key ∷ keys) name ≡ true
+    by true e rest =
+        ap (λ b. b || has_key keys name) (nat_list_eq_equiv.congr name more key same ∙ e)
     by false e rest =
-        ap (λ b. pointwise nat_eq name key || b) (rest (sym (ap (λ b. b || has_key keys more) e) ∙ has)) ∙ or_swap (pointwise nat_eq name key) true
+        ap (λ b. pointwise nat_eq name key || b) (rest (sym (ap (λ b. b || has_key keys more) e) ∙ has))
+        ∙ or_swap (pointwise nat_eq name key) true
 
 -- a name is among the keys with one more where it is that one, or was among them
-has_with_key : (keys : List (List ℕ)) (more name : List ℕ) → has_key (with_key keys more) name ≡ (pointwise nat_eq name more || has_key keys name)
+has_with_key : (keys : List (List ℕ)) (more name : List ℕ)
+    → has_key (with_key keys more) name ≡ (pointwise nat_eq name more || has_key keys name)
 has_with_key keys more name = by (has_key keys more) (pointwise nat_eq name more) refl refl
   where
-    by : (has same : Bool) → has_key keys more ≡ has → pointwise nat_eq name more ≡ same → has_key (if has then keys else keys ++ more ∷ []) name ≡ (same || has_key keys name)
+    by : (has same : Bool) → has_key keys more ≡ has → pointwise nat_eq name more ≡ same
+        → has_key (if has then keys else keys ++ more ∷ []) name ≡ (same || has_key keys name)
     by true true e f = has_equal keys more name f e
     by true false e f = refl
     by false same e f =
@@ -100,7 +109,9 @@ has_with_key keys more name = by (has_key keys more) (pointwise nat_eq name more
         ∙ (or_swap (has_key keys name) (pointwise nat_eq name more)
         ∙ ap (λ b. b || has_key keys name) f))
 
-keeps_more : (own : Bool) (keys : List (List ℕ)) (earlier : List Declared) (it : Declared) → it.by_function ≡ own → Keeps own keys earlier → Keeps own (with_key keys (it.name)) (it ∷ earlier)
+keeps_more : (own : Bool) (keys : List (List ℕ)) (earlier : List Declared) (it : Declared)
+    → it.by_function ≡ own → Keeps own keys earlier
+    → Keeps own (with_key keys (it.name)) (it ∷ earlier)
 keeps_more true keys earlier it is kept = record {
   keeps = λ name.
       has_with_key keys (it.name) name
@@ -114,7 +125,8 @@ keeps_more false keys earlier it is kept = record {
       ∙ sym (ap (λ b. (pointwise nat_eq name (it.name) && not b) || any_of false name earlier) is ∙ ap (λ b. b || any_of false name earlier) (and_true (pointwise nat_eq name (it.name)))));
 }
 
-keeps_same : (own : Bool) (keys : List (List ℕ)) (earlier : List Declared) (it : Declared) → it.by_function ≡ not own → Keeps own keys earlier → Keeps own keys (it ∷ earlier)
+keeps_same : (own : Bool) (keys : List (List ℕ)) (earlier : List Declared) (it : Declared)
+    → it.by_function ≡ not own → Keeps own keys earlier → Keeps own keys (it ∷ earlier)
 keeps_same true keys earlier it is kept = record {
   keeps = λ name.
       kept.keeps name
@@ -131,15 +143,21 @@ record Kept (others functions : List (List ℕ)) (earlier : List Declared) : Typ
   pub of_others : Keeps false others earlier
   pub of_functions : Keeps true functions earlier
 
-kept_more : (others functions : List (List ℕ)) (earlier : List Declared) (it : Declared) → Kept others functions earlier
+kept_more : (others functions : List (List ℕ)) (earlier : List Declared) (it : Declared)
+    → Kept others functions earlier
     → Kept (if it.by_function then others else with_key others (it.name)) (if it.by_function then with_key functions (it.name) else functions) (it ∷ earlier)
 kept_more others functions earlier it kept = by (it.by_function) refl
   where
-    by : (own : Bool) → it.by_function ≡ own → Kept (if own then others else with_key others (it.name)) (if own then with_key functions (it.name) else functions) (it ∷ earlier)
-    by true e = record { of_others = keeps_same false others earlier it e (kept.of_others); of_functions = keeps_more true functions earlier it e (kept.of_functions) }
-    by false e = record { of_others = keeps_more false others earlier it e (kept.of_others); of_functions = keeps_same true functions earlier it e (kept.of_functions) }
+    by : (own : Bool) → it.by_function ≡ own
+        → Kept (if own then others else with_key others (it.name)) (if own then with_key functions (it.name) else functions) (it ∷ earlier)
+    by true e =
+        record { of_others = keeps_same false others earlier it e (kept.of_others); of_functions = keeps_more true functions earlier it e (kept.of_functions) }
+    by false e =
+        record { of_others = keeps_more false others earlier it e (kept.of_others); of_functions = keeps_same true functions earlier it e (kept.of_functions) }
 
-twice_kept : (shared : Bool) (others functions : List (List ℕ)) (earlier list : List Declared) → Kept others functions earlier → twice_keys shared others functions list ≡ twice shared earlier list
+twice_kept : (shared : Bool) (others functions : List (List ℕ)) (earlier list : List Declared)
+    → Kept others functions earlier
+    → twice_keys shared others functions list ≡ twice shared earlier list
 twice_kept shared others functions earlier [] kept = refl
 twice_kept shared others functions earlier (it ∷ list) kept =
     let others' = if it.by_function then others else with_key others (it.name) in
@@ -148,5 +166,7 @@ twice_kept shared others functions earlier (it ∷ list) kept =
     ∙ ap (λ faults. (if clashes shared it earlier then fault TwiceDeclared (it.place) ∷ [] else []) ++ faults) (twice_kept shared others' functions' (it ∷ earlier) list (kept_more others functions earlier it kept))
 
 -- the keys of the names that were noted tell the same faults as the names
-pub twice_noted : (shared : Bool) (list : List Declared) → twice_keys shared [] [] list ≡ twice shared [] list
-twice_noted shared list = twice_kept shared [] [] [] list (record { of_others = record { keeps = λ name. refl }; of_functions = record { keeps = λ name. refl } })
+pub twice_noted : (shared : Bool) (list : List Declared)
+    → twice_keys shared [] [] list ≡ twice shared [] list
+twice_noted shared list =
+    twice_kept shared [] [] [] list (record { of_others = record { keeps = λ name. refl }; of_functions = record { keeps = λ name. refl } })

@@ -5,13 +5,10 @@ use Rattle.js_syntax.specs.declared.kind.Kind.{Kind}
 use Rattle.js_syntax.specs.declared.kind.Kind.TheVariants as kinds
 use Rattle.js_syntax.specs.declared.around.Around.{Around}
 use Rattle.js_syntax.specs.declared.fault.Fault.{Fault}
-use Rattle.js_syntax.specs.declared.fault.FaultKind.{FaultKind}
 use Rattle.js_syntax.specs.declared.fault.FaultKind.TheVariants.{BadTarget, StrayBreak, StrayReturn}
 use Rattle.js_syntax.specs.Names.{must_differ, may_share, twice}
+use Rattle.js_syntax.specs.Order.{fault}
 use Rattle.js_syntax.specs.Tree.{Head, Trees, nothing, tree}
-
-abbrev pub fault : FaultKind → ℕ → Fault
-fault kind place = record { kind = kind; place = place }
 
 -- ---- targets
 
@@ -65,7 +62,8 @@ stray around _ place = []
 -- the faults of a form by itself
 abbrev pub own_faults : Around → Head → Trees → List Fault
 own_faults around head kids =
-    stray around (head.kind) (head.place) ++ (bad_target (head.kind) kids ++ twice (may_share (head.kind)) [] (must_differ (head.kind) head kids))
+    stray around (head.kind) (head.place)
+    ++ (bad_target (head.kind) kids ++ twice (may_share (head.kind)) [] (must_differ (head.kind) head kids))
 
 -- the faults of trees: those of each form by itself, of its parts, and of what stands behind it
 abbrev pub faults_of : Around → Trees → List Fault

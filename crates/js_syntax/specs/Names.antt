@@ -8,6 +8,7 @@ use Rattle.js_syntax.specs.declared.kind.Kind.TheVariants as kinds
 use Rattle.js_syntax.specs.declared.fault.Fault.{Fault}
 use Rattle.js_syntax.specs.declared.fault.FaultKind.TheVariants.{TwiceDeclared}
 use Rattle.js_syntax.specs.declared.listing.Declared.{Declared}
+use Rattle.js_syntax.specs.Order.{fault}
 use Rattle.js_syntax.specs.Tree.{Head, Trees, nothing, tree}
 
 -- ---- what declares names
@@ -16,18 +17,22 @@ use Rattle.js_syntax.specs.Tree.{Head, Trees, nothing, tree}
 abbrev pub named : List (List ℕ) → List ℕ → List Declared
 named [] places = []
 named (name ∷ names) [] = []
-named (name ∷ names) (place ∷ places) = record { name = name; place = place; by_function = false } ∷ named names places
+named (name ∷ names) (place ∷ places) =
+    record { name = name; place = place; by_function = false } ∷ named names places
 
 -- the name that a form may have of its own
 abbrev pub own_name : Bool → Option (List ℕ) → ℕ → List Declared
 own_name by_function None place = []
-own_name by_function (Some name) place = record { name = name; place = place; by_function = by_function } ∷ []
+own_name by_function (Some name) place =
+    record { name = name; place = place; by_function = by_function } ∷ []
 
--- what a statement declares in its list: the names of a `let` or `const`, and, where functions count, a function's name
+-- what a statement declares in its list: the names of a `let` or `const`, and, where functions count, that of a
+-- function
 abbrev pub declares : Bool → Kind → Head → List Declared
 declares functions kinds.Let head = named (head.names) (head.places)
 declares functions kinds.Const head = named (head.names) (head.places)
-declares functions kinds.FunctionDecl head = if functions then own_name true (head.name) (head.name_place) else []
+declares functions kinds.FunctionDecl head =
+    if functions then own_name true (head.name) (head.name_place) else []
 declares functions _ head = []
 
 -- what the statements of a list declare, in order
@@ -68,10 +73,14 @@ must_differ kinds.Const head kids = named (head.names) (head.places)
 must_differ kinds.Script head kids = declared_in true kids
 must_differ kinds.Body head kids = declared_in true kids
 must_differ kinds.Block head kids = declared_in true kids
-must_differ kinds.FunctionDecl head kids = named (head.names) (head.places) ++ declared_in false (body_list kids)
-must_differ kinds.FunctionExpr head kids = named (head.names) (head.places) ++ declared_in false (body_list kids)
-must_differ kinds.Arrow head kids = named (head.names) (head.places) ++ declared_in false (body_list kids)
-must_differ kinds.Try head kids = own_name false (head.name) (head.name_place) ++ declared_in true (catch_list kids)
+must_differ kinds.FunctionDecl head kids =
+    named (head.names) (head.places) ++ declared_in false (body_list kids)
+must_differ kinds.FunctionExpr head kids =
+    named (head.names) (head.places) ++ declared_in false (body_list kids)
+must_differ kinds.Arrow head kids =
+    named (head.names) (head.places) ++ declared_in false (body_list kids)
+must_differ kinds.Try head kids =
+    own_name false (head.name) (head.name_place) ++ declared_in true (catch_list kids)
 must_differ _ head kids = []
 
 -- the lists in which functions may share a name: that of a script, and that of a function's body
@@ -82,12 +91,18 @@ may_share _ = false
 
 -- ---- names declared twice
 
--- a name was declared before; two functions may share one where the list allows it
-abbrev pub clashes : Bool → Declared → List Declared → Bool
-clashes shared it earlier = list_any (λ other. pointwise nat_eq (it.name) (other.name) && not (shared && (it.by_function && other.by_function))) earlier
+-- two declarations are of one name, and the list doesn't let them share it, as it may let two functions
+abbrev pub collide : Bool → Declared → Declared → Bool
+collide shared it other =
+    pointwise nat_eq (it.name) (other.name) && not (shared && (it.by_function && other.by_function))
 
--- each name that was declared before, also among the earlier ones, is a fault at its own place
+-- a declaration collides with an earlier one
+abbrev pub clashes : Bool → Declared → List Declared → Bool
+clashes shared it earlier = list_any (λ other. collide shared it other) earlier
+
+-- each declaration that collides with an earlier one is a fault at its own place
 abbrev pub twice : Bool → List Declared → List Declared → List Fault
 twice shared earlier [] = []
 twice shared earlier (it ∷ later) =
-    (if clashes shared it earlier then record { kind = TwiceDeclared; place = it.place } ∷ [] else []) ++ twice shared (it ∷ earlier) later
+    (if clashes shared it earlier then fault TwiceDeclared (it.place) ∷ [] else [])
+    ++ twice shared (it ∷ earlier) later

@@ -13,13 +13,14 @@ use Rattle.js_syntax.specs.declared.faults.Faults.{Faults}
 use Rattle.js_syntax.specs.declared.listing.Declared.{Declared}
 use Rattle.js_syntax.specs.Tree.{Trees, AreTrees, head_of}
 use Rattle.js_syntax.specs.Names.{named, own_name, declares, is_body, is_block, may_share, twice}
-use Rattle.js_syntax.specs.Faults.{fault, has_target, is_target, own_faults, faults_of, within, stray}
-use Rattle.js_syntax.specs.Order.{number_of}
+use Rattle.js_syntax.specs.Faults.{has_target, is_target, own_faults, faults_of, within, stray}
+use Rattle.js_syntax.specs.Order.{fault, number_of}
 
 -- ---- the fault that is told
 
 abbrev pub is_before : Fault → Fault → Bool
-is_before a b = ltb (a.place) (b.place) || (eqb (a.place) (b.place) && ltb (number_of (a.kind)) (number_of (b.kind)))
+is_before a b =
+    ltb (a.place) (b.place) || (eqb (a.place) (b.place) && ltb (number_of (a.kind)) (number_of (b.kind)))
 
 -- of two faults that may be there
 abbrev pub earlier_of : Option Fault → Option Fault → Option Fault
@@ -49,7 +50,8 @@ declares_at functions nodes k = declares_found functions (slice_get nodes k)
 
 abbrev pub declared_at : Bool → List Node → List ℕ → List Declared
 declared_at functions nodes [] = []
-declared_at functions nodes (k ∷ ks) = declares_at functions nodes k ++ declared_at functions nodes ks
+declared_at functions nodes (k ∷ ks) =
+    declares_at functions nodes k ++ declared_at functions nodes ks
 
 abbrev pub body_kids : Option Node → List ℕ
 body_kids None = []
@@ -77,10 +79,14 @@ differ_at kinds.Const nodes node = named (node.names) (node.places)
 differ_at kinds.Script nodes node = declared_at true nodes (node.kids)
 differ_at kinds.Body nodes node = declared_at true nodes (node.kids)
 differ_at kinds.Block nodes node = declared_at true nodes (node.kids)
-differ_at kinds.FunctionDecl nodes node = named (node.names) (node.places) ++ declared_at false nodes (body_at nodes (node.kids))
-differ_at kinds.FunctionExpr nodes node = named (node.names) (node.places) ++ declared_at false nodes (body_at nodes (node.kids))
-differ_at kinds.Arrow nodes node = named (node.names) (node.places) ++ declared_at false nodes (body_at nodes (node.kids))
-differ_at kinds.Try nodes node = own_name false (node.name) (node.name_place) ++ declared_at true nodes (catch_at nodes (node.kids))
+differ_at kinds.FunctionDecl nodes node =
+    named (node.names) (node.places) ++ declared_at false nodes (body_at nodes (node.kids))
+differ_at kinds.FunctionExpr nodes node =
+    named (node.names) (node.places) ++ declared_at false nodes (body_at nodes (node.kids))
+differ_at kinds.Arrow nodes node =
+    named (node.names) (node.places) ++ declared_at false nodes (body_at nodes (node.kids))
+differ_at kinds.Try nodes node =
+    own_name false (node.name) (node.name_place) ++ declared_at true nodes (catch_at nodes (node.kids))
 differ_at _ nodes node = []
 
 -- the faults of names, by the names that came before: those of functions and those of others
@@ -114,7 +120,8 @@ twice_keys shared others functions (it ∷ later) =
 
 abbrev pub target_fault : Kind → Option Node → List Fault
 target_fault kind None = []
-target_fault kind (Some target) = if has_target kind && not (is_target (target.kind)) then fault BadTarget (target.place) ∷ [] else []
+target_fault kind (Some target) =
+    if has_target kind && not (is_target (target.kind)) then fault BadTarget (target.place) ∷ [] else []
 
 abbrev pub target_at : Kind → List Node → List ℕ → List Fault
 target_at kind nodes [] = []
@@ -132,7 +139,8 @@ noted_fault (Some faults) around = fault_in faults around
 
 abbrev pub parts_fault : List Faults → Around → List ℕ → Option Fault
 parts_fault noted around [] = None
-parts_fault noted around (k ∷ ks) = earlier_of (noted_fault (slice_get noted k) around) (parts_fault noted around ks)
+parts_fault noted around (k ∷ ks) =
+    earlier_of (noted_fault (slice_get noted k) around) (parts_fault noted around ks)
 
 -- the fault that is told of a node's own names and targets
 abbrev pub own_fault : List Node → Node → Option Fault
@@ -153,7 +161,8 @@ fault_with nodes noted node around = fault_over noted node (own_fault nodes node
 
 -- these are the faults that are worked out for a node over those of the nodes below it
 abbrev pub AreWorkedOut : List Node → List Faults → Node → Faults → Type 0
-AreWorkedOut nodes noted node faults = (around : Around) → fault_in faults around ≡ fault_with nodes noted node around
+AreWorkedOut nodes noted node faults =
+    (around : Around) → fault_in faults around ≡ fault_with nodes noted node around
 
 -- these are the faults that are told of this node and its parts, wherever it stands
 abbrev pub Tells : List Node → ℕ → Node → Faults → Type 0
@@ -164,4 +173,5 @@ Tells nodes k node faults =
 -- each node's faults are noted
 pub record AreNoted (nodes : List Node) (noted : List Faults) : Type 0 where
   pub len : length noted ≡ length nodes
-  pub each : (k : ℕ) (node : Node) (faults : Faults) → slice_get nodes k ≡ Some node → slice_get noted k ≡ Some faults → Tells nodes k node faults
+  pub each : (k : ℕ) (node : Node) (faults : Faults) → slice_get nodes k ≡ Some node
+      → slice_get noted k ≡ Some faults → Tells nodes k node faults

@@ -5,6 +5,10 @@ use Rattle.js_syntax.specs.declared.fault.Fault.{Fault}
 use Rattle.js_syntax.specs.declared.fault.FaultKind.{FaultKind}
 use Rattle.js_syntax.specs.declared.fault.FaultKind.TheVariants.{TwiceDeclared, BadTarget, StrayBreak, StrayReturn}
 
+-- a fault of a kind at a place
+abbrev pub fault : FaultKind → ℕ → Fault
+fault kind place = record { kind = kind; place = place }
+
 -- the number of the refusal
 abbrev pub number_of : FaultKind → ℕ
 number_of TwiceDeclared = 10

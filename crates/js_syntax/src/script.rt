@@ -57,7 +57,8 @@ impl Script {
         node.kids.as_slice().iter().all(|kid| *kid < length) && is_formed(node)
     }
 
-    /// Adds a node, which is the root until the next one is added, and gives its number.
+    /// Adds a node, which is the root until the next one is added, and gives its number. Only want of
+    /// memory refuses it, and then the script is as it was.
     pub fn add(&mut self, node: Node) -> Result<u32, NoMemory>
         requires kids { AreBelow node.kids (length self.old) }
         requires formed { IsFormed node }
