@@ -4,7 +4,6 @@ use Rattle.std.specs.List.{list_any}
 use Rattle.std.proofs.lemmas.List.Folds.{list_any-append}
 use Rattle.std.proofs.lemmas.Cmp.{nat_list_eq_equiv}
 use lib.Pointwise.{pointwise}
-use Rattle.js_syntax.specs.declared.fault.Fault.{Fault}
 use Rattle.js_syntax.specs.declared.fault.FaultKind.TheVariants.{TwiceDeclared}
 use Rattle.js_syntax.specs.Order.{fault}
 use Rattle.js_syntax.specs.declared.listing.Declared.{Declared}

@@ -1,5 +1,5 @@
 -- What is noted beside the nodes is what is told of their trees.
-use Rattle.std.proofs.Common.{◌≡◌, ℕ, zero, suc, ◌+◌, ◌-◌, ◌<◌, ◌≤◌, Bool, true, false, List, [], ◌∷◌, ◌++◌, length, Option, Some, None, slice_get, if◌then◌else◌, refl, ap, subst, sym, ◌∙◌, arith, inl, inr, length-append, IfSome, IfNone}
+use Rattle.std.proofs.Common.{◌≡◌, ℕ, suc, ◌+◌, ◌-◌, ◌<◌, ◌≤◌, Bool, true, false, List, [], ◌∷◌, ◌++◌, length, Option, Some, None, slice_get, if◌then◌else◌, refl, ap, subst, sym, ◌∙◌, arith, inl, inr, length-append, IfSome, IfNone}
 use Rattle.std.proofs.lemmas.List.{append-nil}
 use Rattle.std.proofs.lemmas.Option.{slice_get_within, slice_get_cases}
 use Rattle.js_syntax.specs.declared.kind.Kind.{Kind}
@@ -8,15 +8,14 @@ use Rattle.js_syntax.specs.declared.node.Node.{Node}
 use Rattle.js_syntax.specs.declared.around.Around.{Around}
 use Rattle.js_syntax.specs.declared.fault.Fault.{Fault}
 use Rattle.js_syntax.specs.declared.faults.Faults.{Faults}
-use Rattle.js_syntax.specs.declared.listing.Declared.{Declared}
 use Rattle.js_syntax.specs.Shape.{AreBelow}
-use Rattle.js_syntax.specs.Tree.{Head, Trees, nothing, tree, AreTrees, no_trees, some_trees, head_of, IsTreeOf}
+use Rattle.js_syntax.specs.Tree.{Trees, nothing, tree, AreTrees, no_trees, some_trees, head_of, IsTreeOf}
 use Rattle.js_syntax.specs.Names.{named, own_name, declares, declared_in, is_body, is_block, body_list, block_list, catch_list, must_differ, may_share, twice}
 use Rattle.js_syntax.specs.Faults.{bad_target, own_faults, faults_of, within, stray}
 use Rattle.js_syntax.specs.Noted.{earlier_of, least, declares_found, declared_at, body_kids, body_at, block_kids, block_at, catch_at, differ_at, target_fault, target_at, fault_in, noted_fault, parts_fault, own_fault, fault_with, Tells, AreNoted}
 use Rattle.js_syntax.specs.Early.{outside, HasEarlyFault, HasNoEarlyFault}
 use Rattle.js_syntax.proofs.OrderLemmas.{earlier_assoc, least_append, least_none, least_is}
-use Rattle.js_syntax.proofs.TreeLemmas.{get_more, get_less, get_last, trees_more, tree_unique}
+use Rattle.js_syntax.proofs.TreeLemmas.{get_less, get_last, trees_more, tree_unique}
 
 -- ---- names
 

@@ -2,7 +2,7 @@
 use Rattle.std.proofs.Common.{◌≡◌, ℕ, Bool, true, false, ◌&&◌, ◌||◌, ltb, eqb, List, [], ◌∷◌, ◌++◌, Option, None, Some, slice_get, zero, suc, ◌<◌, ◌⊎◌, inl, inr, subst, if◌then◌else◌, refl, ap, sym, ◌∙◌, arith}
 use Rattle.std.proofs.lemmas.Bool.Decides.{nat_tests}
 use Rattle.js_syntax.specs.declared.fault.Fault.{Fault}
-use Rattle.js_syntax.specs.Order.{number_of, IsBefore, IsOneOf, IsLeast}
+use Rattle.js_syntax.specs.Order.{number_of, IsBefore, IsLeast}
 use Rattle.js_syntax.specs.Noted.{is_before, earlier_of, least}
 
 abbrev lower_test : ℕ → ℕ → ℕ → ℕ → Bool

@@ -1,12 +1,11 @@
 -- One turn of a loop over a list, of which the first element is taken off.
-use Rattle.std.proofs.Common.{◌≡◌, ℕ, zero, suc, ◌+◌, ◌-◌, ◌<◌, ◌≤◌, Bool, List, [], ◌∷◌, ◌++◌, length, take, drop, get_or, Option, Some, None, slice_get, if◌then◌else◌, refl, ap, subst, sym, ◌∙◌, arith, append_assoc}
+use Rattle.std.proofs.Common.{◌≡◌, ℕ, ◌-◌, ◌<◌, ◌≤◌, Bool, List, [], ◌∷◌, length, take, drop, get_or, Option, None, slice_get, if◌then◌else◌, refl, ap, sym, ◌∙◌, arith}
 use Rattle.std.proofs.Math.Seq.{take-length}
-use Rattle.js_syntax.specs.declared.node.Node.{Node}
 use Rattle.js_syntax.specs.declared.around.Around.{Around}
 use Rattle.js_syntax.specs.declared.fault.Fault.{Fault}
 use Rattle.js_syntax.specs.declared.faults.Faults.{Faults}
 use Rattle.js_syntax.specs.declared.listing.Declared.{Declared}
-use Rattle.js_syntax.specs.Noted.{earlier_of, least, noted_fault, parts_fault, declares_found, declared_at, twice_fault, twice_keys, with_key}
+use Rattle.js_syntax.specs.Noted.{earlier_of, least, noted_fault, parts_fault, twice_fault, twice_keys, with_key}
 use Rattle.js_syntax.specs.Names.{twice}
 use Rattle.js_syntax.proofs.OrderLemmas.{earlier_assoc, earlier_none, least_append}
 

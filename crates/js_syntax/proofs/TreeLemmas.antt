@@ -1,9 +1,7 @@
 -- The trees under nodes: each sound list of nodes has just one, and more nodes change none.
-use Rattle.std.proofs.Common.{◌≡◌, ℕ, zero, suc, ◌+◌, ◌<◌, ◌≤◌, List, [], ◌∷◌, ◌++◌, length, Option, Some, None, slice_get, refl, ap, subst, sym, ◌∙◌, arith}
-use Rattle.std.proofs.lemmas.Option.{slice_get_within}
+use Rattle.std.proofs.Common.{◌≡◌, ℕ, zero, suc, ◌<◌, List, [], ◌∷◌, ◌++◌, length, Some, slice_get, refl, ap, subst, sym, ◌∙◌, arith}
 use Rattle.js_syntax.specs.declared.node.Node.{Node}
-use Rattle.js_syntax.specs.Shape.{AreBelow}
-use Rattle.js_syntax.specs.Tree.{Trees, nothing, tree, AreTrees, no_trees, some_trees, head_of, IsTreeOf}
+use Rattle.js_syntax.specs.Tree.{Trees, tree, AreTrees, no_trees, some_trees, head_of, IsTreeOf}
 
 -- an element stays where it is when more are added
 pub get_more : {A : Type 0} (xs ys : List A) (k : ℕ) (x : A) → slice_get xs k ≡ Some x

@@ -1,5 +1,5 @@
 -- The faults that are worked out for one node, put together.
-use Rattle.std.proofs.Common.{◌≡◌, ℕ, Bool, true, false, List, [], Option, refl, ap, sym, ◌∙◌}
+use Rattle.std.proofs.Common.{◌≡◌, ℕ, Bool, true, false, List, [], Option, ap, ◌∙◌}
 use Rattle.js_syntax.specs.declared.node.Node.{Node}
 use Rattle.js_syntax.specs.declared.around.Around.{Around}
 use Rattle.js_syntax.specs.declared.fault.Fault.{Fault}

@@ -1,6 +1,5 @@
 -- The table of what each kind asks for, as the definitions say it. No caller needs this.
 -- This project's own.
-use Rattle.std.specs.Prelude.{ℕ}
 use Rattle.js_syntax.specs.declared.shape.Naming.{Naming}
 use Rattle.js_syntax.specs.declared.shape.Naming.TheVariants as namings
 use Rattle.js_syntax.specs.declared.shape.Amount.{Amount}

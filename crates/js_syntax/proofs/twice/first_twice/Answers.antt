@@ -1,4 +1,4 @@
-use Rattle.std.proofs.Common.{◌≡◌, [], refl, ap, sym, ◌∙◌}
+use Rattle.std.proofs.Common.{ap, ◌∙◌}
 use Rattle.js_syntax.specs.Noted.{least}
 use Rattle.js_syntax.proofs.NameLemmas.{twice_noted}
 use Rattle.js_syntax.proofs.StepLemmas.{twice_step, twice_end, twice_short}

@@ -1,5 +1,4 @@
-use Rattle.std.proofs.Common.{◌≡◌, ◌+◌, ◌<◌, List, Some, IfSome, IfNone, length, slice_get, subst, sym, ap, arith}
-use Rattle.js_syntax.specs.declared.node.Node.{Node}
+use Rattle.std.proofs.Common.{◌≡◌, ◌+◌, IfSome, IfNone, length, sym, ap, arith}
 use Rattle.js_syntax.specs.Early.{HasEarlyFault, HasNoEarlyFault}
 use Rattle.js_syntax.proofs.NotedLemmas.{some_told, none_told}
 use Rattle.js_syntax.proofs.script.Script.early_fault.Goals as goal

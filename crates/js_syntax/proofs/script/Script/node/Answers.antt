@@ -1,4 +1,4 @@
-use Rattle.std.proofs.Common.{◌≡◌, ◌+◌, ◌<◌, Some, ap, arith, get_or, length, refl, slice_get, subst}
+use Rattle.std.proofs.Common.{◌≡◌, Some, ap, arith, get_or, length, refl, slice_get, subst}
 use Rattle.std.proofs.lemmas.Option.{slice_get_read}
 use Rattle.js_syntax.specs.Shape.{AreBelow}
 use Rattle.js_syntax.proofs.SoundLemmas.{sound_at}

@@ -1,5 +1,4 @@
-use Rattle.std.proofs.Common.{ℕ, ◌<◌, List, length, ap, arith}
-use Rattle.js_syntax.specs.declared.node.Node.{Node}
+use Rattle.std.proofs.Common.{◌<◌, length, ap, arith}
 use Rattle.js_syntax.specs.Tree.{Trees, IsTreeOf}
 use Rattle.js_syntax.proofs.NotedLemmas.{root_tree}
 use Rattle.js_syntax.proofs.TreeLemmas.{tree_unique}
