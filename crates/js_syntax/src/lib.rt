@@ -6,10 +6,20 @@
 //! Begin with `specs/Shape.antt` and `specs/Tree.antt`, then `src/script.rt`.
 #![tactic(auto)]
 
+mod around;
+mod checked;
+mod fault;
+mod faults;
 mod kind;
+mod listing;
 mod node;
 mod script;
+mod shape;
+mod twice;
 
+pub use around::Around;
+pub use checked::{Checked, Scripts};
+pub use fault::{Fault, FaultKind};
 pub use ivm_text::{Refusal, RefusalKind};
 pub use kind::Kind;
 pub use node::{Kids, Names, Node, Places};

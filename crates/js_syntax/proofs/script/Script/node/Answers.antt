@@ -1,4 +1,4 @@
-use Rattle.std.proofs.Common.{◌≡◌, ◌+◌, ◌<◌, Some, ap, arith, get_or, length, refl, slice_get, subst}
+use Rattle.std.proofs.Common.{◌≡◌, Some, ap, arith, get_or, length, refl, slice_get, subst}
 use Rattle.std.proofs.lemmas.Option.{slice_get_read}
 use Rattle.js_syntax.specs.Shape.{AreBelow}
 use Rattle.js_syntax.proofs.SoundLemmas.{sound_at}
@@ -9,11 +9,11 @@ returns-clause-kids c =
     let node = c.index-as_slice-number.result in
     let read : node ≡ get_or c.self.inside.nodes c.args.number node = rw c.as_slice.ensures.items at c.index-as_slice-number.is in
     let here : slice_get c.self.inside.nodes c.args.number ≡ Some node = slice_get_read c.self.inside.nodes (length c.self.inside.nodes) c.args.number node refl (omega (arith, ap length c.self.view_is, c.requires)) read in
-    subst (AreBelow node.kids) (omega arith) (sound_at 0 c.self.inside.nodes c.args.number node c.self.invariant here).0
+    subst (AreBelow node.kids) (omega arith) (sound_at 0 c.self.inside.nodes c.args.number node c.self.invariant.0 here).0
 
 pub returns-clause-formed : goal.returns-clause-formed
 returns-clause-formed c =
     let node = c.index-as_slice-number.result in
     let read : node ≡ get_or c.self.inside.nodes c.args.number node = rw c.as_slice.ensures.items at c.index-as_slice-number.is in
     let here : slice_get c.self.inside.nodes c.args.number ≡ Some node = slice_get_read c.self.inside.nodes (length c.self.inside.nodes) c.args.number node refl (omega (arith, ap length c.self.view_is, c.requires)) read in
-    (sound_at 0 c.self.inside.nodes c.args.number node c.self.invariant here).1
+    (sound_at 0 c.self.inside.nodes c.args.number node c.self.invariant.0 here).1
