@@ -1,0 +1,6 @@
+pub mod Classes
+pub mod Work
+pub mod Rules
+pub mod Expressions
+pub mod Statements
+pub mod Grammar
