@@ -14,6 +14,3 @@ mod ledger;
 mod tally;
 
 pub use host::{Host, Posting};
-
-#[cfg(test)]
-mod tests;

@@ -30,7 +30,7 @@ commands-preserved-in-Own c = after_own c.args.script.now c.commands.host c.comm
 pub commands-smaller-in-Own : goal.commands-smaller-in-Own
 commands-smaller-in-Own c =
     fewer_commands c.args.script.now c.commands.host c.commands.cells.items c.requires c.commands.invariant c.step.new.self c.step.new.self c.in_ok-step.field-0 0 [] c.in_ok-step.ensures.ok
-      (own_on c.in_ok-step.field-0 c.in-Own.is) refl
+    (own_on c.in_ok-step.field-0 c.in-Own.is) refl
 
 -- ---- a post
 
