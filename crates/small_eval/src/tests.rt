@@ -70,7 +70,21 @@ static ROWS: [(&str, Evaluation); 32] = [
     ("2 +", Evaluation::NotBuilt),
 ];
 
-// over a global object with five = 5, yes = true, nil = null, none = undefined, later = 3
+static SET_AGAIN: [(&str, Leaf); 3] = [
+    ("first", Leaf::Num(1)),
+    ("second", Leaf::Null),
+    ("first", Leaf::Bool(false)),
+];
+
+static GLOBAL: [(&str, Leaf); 5] = [
+    ("five", Leaf::Num(5)),
+    ("yes", Leaf::Bool(true)),
+    ("nil", Leaf::Null),
+    ("none", Leaf::Undefined),
+    ("later", Leaf::Num(3)),
+];
+
+// over the global object above
 static GLOBAL_ROWS: [(&str, Evaluation); 28] = [
     ("five", Evaluation::Value(Leaf::Num(5))),
     ("five * five - 1", Evaluation::Value(Leaf::Num(24))),
@@ -136,21 +150,13 @@ fn texts_share_the_names_of_their_context(rt: HostRuntime) -> Result<(), NoMemor
 fn texts_read_the_properties_of_their_global_object(rt: HostRuntime) -> Result<(), NoMemory> {
     let alloc = rt.alloc();
     let mut names = Names::new(alloc);
-    let mut global = Properties::new(alloc);
-    global.set(word(alloc, "five")?, Leaf::Num(5))?;
-    global.set(word(alloc, "yes")?, Leaf::Bool(true))?;
-    global.set(word(alloc, "nil")?, Leaf::Null)?;
-    global.set(word(alloc, "none")?, Leaf::Undefined)?;
-    global.set(word(alloc, "later")?, Leaf::Num(3))?;
+    let global = object(alloc, &GLOBAL)?;
     for (text, wanted) in &GLOBAL_ROWS {
         let evaluation = evaluate(alloc, &mut names, &global, text.as_bytes())?;
         assert_eq!(rt; evaluation, *wanted, "{text}");
     }
     // flag, five, later, copy, t, yes, u
     assert_eq!(rt; names.len(), 7);
-    let yes = word(alloc, "yes")?;
-    assert_eq!(rt; names.read(&global, &yes), None);
-    assert_eq!(rt; global.get(&yes), Some(Leaf::Bool(true)));
     Ok(())
 }
 
@@ -172,17 +178,20 @@ fn a_new_name_has_no_value(rt: HostRuntime) -> Result<(), NoMemory> {
 #[test]
 fn a_property_that_is_set_again_stands_once(rt: HostRuntime) -> Result<(), NoMemory> {
     let alloc = rt.alloc();
-    let mut global = Properties::new(alloc);
-    let (first, second) = (word(alloc, "first")?, word(alloc, "second")?);
-    assert_eq!(rt; global.get(&first), None);
-    global.set(word(alloc, "first")?, Leaf::Num(1))?;
-    global.set(word(alloc, "second")?, Leaf::Null)?;
-    global.set(word(alloc, "first")?, Leaf::Bool(false))?;
+    let global = object(alloc, &SET_AGAIN)?;
+    let first = word(alloc, "first")?;
     assert_eq!(rt; global.len(), 2);
     assert_eq!(rt; global.get(&first), Some(Leaf::Bool(false)));
-    assert_eq!(rt; global.get(&second), Some(Leaf::Null));
     sends(&global);
     Ok(())
+}
+
+fn object(alloc: Global, entries: &[(&str, Leaf)]) -> Result<Properties, NoMemory> {
+    let mut global = Properties::new(alloc);
+    for (key, value) in entries {
+        global.set(word(alloc, key)?, *value)?;
+    }
+    Ok(global)
 }
 
 fn word(alloc: Global, text: &str) -> Result<Units, NoMemory>
