@@ -29,9 +29,9 @@ pub started : (ts : List Token) (nodes : List Node) (top outer : Draft) (below :
 unfolding grown parts_then frames_then
 started ts nodes top outer below en et eb eo =
     ap (λ (n : List Node). going (work_of (drop 0 ts) n top below)) en
-      ∙ ap (λ (t : Draft). going (work_of (drop 0 ts) [] t below)) et
-      ∙ ap (λ (b : List Draft). going (work_of (drop 0 ts) [] (fresh_draft kinds.Script 0) b)) eb
-      ∙ ap (λ (o : Draft). going (work_of (drop 0 ts) [] (fresh_draft kinds.Script 0) (o ∷ []))) eo
+    ∙ ap (λ (t : Draft). going (work_of (drop 0 ts) [] t below)) et
+    ∙ ap (λ (b : List Draft). going (work_of (drop 0 ts) [] (fresh_draft kinds.Script 0) b)) eb
+    ∙ ap (λ (o : Draft). going (work_of (drop 0 ts) [] (fresh_draft kinds.Script 0) (o ∷ []))) eo
 
 pub read_whole : (ts : List Token) (s0 s : State) → s0 ≡ at_start ts → s ≡ run (within limit) script s0 → s ≡ reading ts
 read_whole ts s0 s e0 e = e ∙ ap (λ (q : State). run (within limit) script q) e0
@@ -48,7 +48,7 @@ pub finished_tree : (nodes : List Node) (pieces front : List Piece) (p : Piece) 
 finished_tree nodes pieces front p e last =
     let at : p.node ≡ length nodes - 1 = omega arith in
     ap (λ (ps : List Part). tree_of_parts ps) (last_part (grown [] nodes) pieces front p e)
-      ∙ ap (λ (n : ℕ). tree (root_at (grown [] nodes) n).head (root_at (grown [] nodes) n).kids nothing) at
+    ∙ ap (λ (n : ℕ). tree (root_at (grown [] nodes) n).head (root_at (grown [] nodes) n).kids nothing) at
 
 -- ---- faults
 
@@ -65,6 +65,6 @@ grammar_fault bytes end ts us (faults.Refused r) are same long h =
     inr (record { tokens = ts; are_its_tokens = are; is_their_refusal = sym (ap (λ (n : ℕ). answer n ts) long) ∙ sym (ap (λ (vs : List Token). answer end vs) same) ∙ h })
 grammar_fault bytes end ts us faults.NoMemory are same long h = tt
 
-pub grammar_script : (bytes : List ℕ) (end : ℕ) (ts us : List Token) (script : List Node) → AreTokens bytes ts → us ≡ ts → end ≡ length bytes → answer end us ≡ accepted (tree_of script) → IsScriptOf bytes script
-grammar_script bytes end ts us script are same long h =
+pub grammar_script : (bytes : List ℕ) (end : ℕ) (ts us : List Token) (nodes : List Node) → AreTokens bytes ts → us ≡ ts → end ≡ length bytes → answer end us ≡ accepted (tree_of nodes) → IsScriptOf bytes nodes
+grammar_script bytes end ts us nodes are same long h =
     record { tokens = ts; are_its_tokens = are; is_their_tree = sym (ap (λ (n : ℕ). answer n ts) long) ∙ sym (ap (λ (vs : List Token). answer end vs) same) ∙ h }

@@ -146,8 +146,8 @@ pub refusal_here : (end : ℕ) (why : Why) (ts us : List Token) (t : Token) (c :
 refusal_here end why ts us t c k word e ec ek ew =
     let at : c ≡ class_of (t ∷ us) = ec ∙ ap (λ (vs : List Token). class_of vs) e in
     ap (λ (q : RefusalKind). refusal_as q t.place word) (ek ∙ ap (λ (d : Class). kind_of why d) at)
-      ∙ ap (λ (v : Option (List ℕ)). refusal_as (kind_of why (class_of (t ∷ us))) t.place v) (ew ∙ ap (λ (d : Class). word_of d t.text) at)
-      ∙ sym (ap (λ (vs : List Token). refusal_at end why vs) e)
+    ∙ ap (λ (v : Option (List ℕ)). refusal_as (kind_of why (class_of (t ∷ us))) t.place v) (ew ∙ ap (λ (d : Class). word_of d t.text) at)
+    ∙ sym (ap (λ (vs : List Token). refusal_at end why vs) e)
 
 pub refusal_at_end : (end : ℕ) (why : Why) (ts : List Token) (k : RefusalKind) → ts ≡ [] → k ≡ kind_of why classes.End → record { kind = k; place = end; word = None } ≡ refusal_at end why ts
 refusal_at_end end why ts k e ek = ap (λ (q : RefusalKind). refusal_as q end None) ek ∙ sym (ap (λ (vs : List Token). refusal_at end why vs) e)
