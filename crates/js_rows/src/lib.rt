@@ -15,8 +15,12 @@ mod gaps;
 #[cfg(test)]
 mod numbers;
 #[cfg(test)]
+mod parsing;
+#[cfg(test)]
 mod punctuators;
 #[cfg(test)]
 mod reading;
+#[cfg(test)]
+mod scripts;
 #[cfg(test)]
 mod strings;

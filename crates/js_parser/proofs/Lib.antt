@@ -1,0 +1,6 @@
+pub mod Words
+pub mod TableLemmas
+pub mod Built
+pub mod Works
+pub mod Steps
+pub mod Endings

@@ -1,0 +1,25 @@
+use Rattle.std.proofs.Common.{◌≡◌, ℕ, ◌+◌, ◌<◌, List, [], ◌∷◌, ◌++◌, length, true, Option, Some, None, refl, sym, ap, ◌∙◌, subst, arith}
+use Rattle.js_lexer.specs.declared.token.Token.{Token}
+use Rattle.js_syntax.specs.declared.node.Node.{Node}
+use Rattle.js_grammar.specs.Work.{Work, Part, Frame, pushed, added, with_one_name}
+use Rattle.js_syntax.specs.declared.kind.Kind.TheVariants as kinds
+use Rattle.js_parser.specs.declared.draft.Piece.{Piece}
+use Rattle.js_parser.specs.declared.draft.Draft.{Draft}
+use Rattle.js_parser.specs.View.{Root, grown, part_at, parts_then, frame_of, frames_then, work_of, known, all_known}
+use Rattle.js_parser.specs.Changes.{work_in}
+use Rattle.js_parser.proofs.Built as built
+use Rattle.js_parser.proofs.Works as works
+use Rattle.js_parser.proofs.builder.Builder.close.Goals as goal
+
+pub returns-in-None : goal.returns-in-None
+returns-in-None c = λ rest.
+    works.close_none (work_in rest c.args.self.now) _ (works.no_frames (grown [] c.args.self.now.script) _ c.in-None.ensures.drafts.0)
+    (works.same_below rest c.args.self.now.script c.args.self.now.top c.args.self.now.below _ (c.in-None.ensures.drafts.1 ∙ sym c.in-None.ensures.drafts.0))
+
+pub returns-in-Some : goal.returns-in-Some
+returns-in-Some c = works.ok_map c.add.result
+    (λ _ e rest. works.close_some (work_in rest c.args.self.now) _ _ (frame_of (grown [] c.args.self.now.script) c.in-Some.outer) _
+    (works.last_frame (grown [] c.args.self.now.script) _ _ c.in-Some.outer c.in-Some.ensures.drafts)
+    (ap (λ (d : Draft). work_of rest c.args.self.now.script d c.take_draft.new.drafts) c.replace-inner.ensures.after)
+    (e rest ∙ ap (λ (d : Draft). added (frame_of (grown [] c.args.self.now.script) d) (work_of rest c.args.self.now.script c.replace-inner.new.dest c.take_draft.new.drafts)) c.replace-inner.ensures.value))
+    c.add.ensures

@@ -1,0 +1,22 @@
+use Rattle.std.proofs.Common.{◌≡◌, ℕ, ◌+◌, ◌<◌, List, [], ◌∷◌, ◌++◌, length, true, Option, Some, None, refl, sym, ap, ◌∙◌, subst, arith}
+use Rattle.js_lexer.specs.declared.token.Token.{Token}
+use Rattle.js_syntax.specs.declared.node.Node.{Node}
+use Rattle.js_grammar.specs.Work.{Work, Part, Frame, pushed, added, with_one_name}
+use Rattle.js_syntax.specs.declared.kind.Kind.TheVariants as kinds
+use Rattle.js_parser.specs.declared.draft.Piece.{Piece}
+use Rattle.js_parser.specs.declared.draft.Draft.{Draft}
+use Rattle.js_parser.specs.View.{Root, grown, part_at, parts_then, frame_of, frames_then, work_of, known, all_known}
+use Rattle.js_parser.specs.Changes.{work_in}
+use Rattle.js_parser.proofs.Built as built
+use Rattle.js_parser.proofs.Works as works
+use Rattle.js_parser.proofs.builder.Builder.pair.Goals as goal
+
+pub returns-in-None : goal.returns-in-None
+returns-in-None c = λ rest.
+    works.pair_none c.args.kind (work_in rest c.args.self.now) _ (works.no_parts (grown [] c.args.self.now.script) _ c.in-None.ensures.pieces.0)
+    (works.same_pieces rest c.args.self.now.script c.args.self.now.top c.args.self.now.below _ (c.in-None.ensures.pieces.1 ∙ sym c.in-None.ensures.pieces.0))
+
+pub returns-in-Some : goal.returns-in-Some
+returns-in-Some c = works.ok_map c.pair_with.result
+    (λ _ e rest. e (work_in rest c.args.self.now) rest (works.last_part (grown [] c.args.self.now.script) _ _ c.in-Some.second c.in-Some.ensures.pieces) refl)
+    c.pair_with.ensures

@@ -1,0 +1,24 @@
+use Rattle.std.proofs.Common.{◌≡◌, ℕ, ◌+◌, ◌<◌, List, [], ◌∷◌, ◌++◌, length, true, Option, Some, None, refl, sym, ap, ◌∙◌, subst, arith}
+use Rattle.js_lexer.specs.declared.token.Token.{Token}
+use Rattle.js_syntax.specs.declared.node.Node.{Node}
+use Rattle.js_grammar.specs.Work.{Work, Part, Frame, pushed, added, with_one_name}
+use Rattle.js_syntax.specs.declared.kind.Kind.TheVariants as kinds
+use Rattle.js_parser.specs.declared.draft.Piece.{Piece}
+use Rattle.js_parser.specs.declared.draft.Draft.{Draft}
+use Rattle.js_parser.specs.View.{Root, grown, part_at, parts_then, frame_of, frames_then, work_of, known, all_known}
+use Rattle.js_parser.specs.Changes.{work_in}
+use Rattle.js_parser.proofs.Built as built
+use Rattle.js_parser.proofs.Works as works
+use Rattle.js_parser.proofs.builder.Builder.shorthand.Goals as goal
+
+pub returns-in-Some : goal.returns-in-Some
+returns-in-Some c = works.ok_map c.add.result
+    (λ _ e rest. works.shorthand_some (work_in rest c.args.self.now) _ (frame_of (grown [] c.args.self.now.script) _) (c.in-Some.name, c.in-Some.place)
+    (sym c.in-Some.is ∙ c.in_ok-name.ensures)
+    (works.leaf_frame (grown [] c.args.self.now.script) _ c.in-Some.name c.in-Some.place
+    (ap (λ (d : Draft). record d { name = Some c.in-Some.name; name_place = c.in-Some.place }) c.new-leaf.ensures))
+    (e rest))
+    c.add.ensures
+
+pub returns-in-None : goal.returns-in-None
+returns-in-None c = λ rest. works.shorthand_none (work_in rest c.args.self.now) (sym c.in-None.is ∙ c.in_ok-name.ensures)

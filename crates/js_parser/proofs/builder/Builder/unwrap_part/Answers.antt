@@ -1,0 +1,34 @@
+use Rattle.std.proofs.Common.{◌≡◌, ℕ, ◌+◌, ◌<◌, List, [], ◌∷◌, ◌++◌, length, true, Option, Some, None, refl, sym, ap, ◌∙◌, subst, arith}
+use Rattle.js_lexer.specs.declared.token.Token.{Token}
+use Rattle.js_syntax.specs.declared.node.Node.{Node}
+use Rattle.js_grammar.specs.Work.{Work, Part, Frame, pushed, added, with_one_name}
+use Rattle.js_syntax.specs.declared.kind.Kind.TheVariants as kinds
+use Rattle.js_parser.specs.declared.draft.Piece.{Piece}
+use Rattle.js_parser.specs.declared.draft.Draft.{Draft}
+use Rattle.js_parser.specs.View.{Root, grown, part_at, parts_then, frame_of, frames_then, work_of, known, all_known}
+use Rattle.js_parser.specs.Changes.{work_in}
+use Rattle.js_parser.proofs.Built as built
+use Rattle.js_parser.proofs.Works as works
+use Rattle.js_parser.proofs.builder.Builder.unwrap_part.Goals as goal
+
+pub returns-in-None : goal.returns-in-None
+returns-in-None c = works.ok_map c.push-in-None.result
+    (λ _ e w rest e0 e1. works.unwrap_alone w (work_in rest c.args.self.now) _ (part_at (grown [] c.args.self.now.script) c.args.piece) _ e0
+    (sym (ap (λ (v : Work). v.below) e1) ∙ works.no_frames (grown [] c.args.self.now.script) _ c.in-None.ensures.drafts.0) e1
+    (e rest ∙ ap (λ (v : Work). pushed (part_at (grown [] c.args.self.now.script) c.args.piece) v)
+    (works.same_below rest c.args.self.now.script c.args.self.now.top c.args.self.now.below _ (c.in-None.ensures.drafts.1 ∙ sym c.in-None.ensures.drafts.0))))
+    c.push-in-None.ensures
+
+pub returns-in-Some : goal.returns-in-Some
+returns-in-Some c = works.ok_map c.push.result
+    (λ _ e w rest e0 e1.
+    let made = grown [] c.args.self.now.script in
+    let place : c.args.self.now.top.place ≡ w.top.place = ap (λ (v : Work). v.top.place) e1 in
+    let inner : c.replace-inner.result.place ≡ w.top.place = ap (λ (d : Draft). d.place) c.replace-inner.ensures.value ∙ place in
+    works.unwrap_some w (work_of rest c.args.self.now.script c.in-Some.outer c.take_draft.new.drafts) _ (part_at made c.args.piece) _ (frame_of made c.in-Some.outer) _ e0
+    (sym (ap (λ (v : Work). v.below) e1) ∙ works.last_frame made _ _ c.in-Some.outer c.in-Some.ensures.drafts)
+    (ap (λ (v : Work). record v { top = frame_of made c.in-Some.outer; below = frames_then made c.take_draft.new.drafts [] }) e1)
+    (e rest
+    ∙ ap (λ (n : ℕ). pushed (record (part_at made c.args.piece) { start = n }) (work_of rest c.args.self.now.script c.replace-inner.new.dest c.take_draft.new.drafts)) inner
+    ∙ ap (λ (d : Draft). pushed (record (part_at made c.args.piece) { start = w.top.place }) (work_of rest c.args.self.now.script d c.take_draft.new.drafts)) c.replace-inner.ensures.after))
+    c.push.ensures

@@ -1,0 +1,24 @@
+use Rattle.std.proofs.Common.{◌≡◌, List, [], ◌∷◌, true, refl, sym, ap, ◌∙◌}
+use Rattle.js_grammar.specs.declared.class.Class.TheVariants as classes
+use Rattle.js_grammar.specs.declared.form.Form.TheVariants as forms
+use Rattle.js_grammar.specs.declared.form.Form.TheVariants.{Item}
+use Rattle.js_grammar.specs.Rules.{Rule, Test, run, left, passes, sees, sees_other, many, inside, either, act, ◌▸◌}
+use Rattle.js_grammar.specs.Grammar.{within}
+use Rattle.js_grammar.specs.Expressions.{further_expression}
+use Rattle.js_grammar.proofs.Takes.{looped, loop_go, loop_less, loop_end}
+use Rattle.js_parser.specs.State.{state_of}
+use Rattle.js_parser.proofs.grammar.Grammar.further_expressions.Goals as goal
+
+pub loop-reader-init : goal.loop-reader-init
+loop-reader-init g c = refl
+
+pub loop-reader-preserved : goal.loop-reader-preserved
+unfolding further_expression
+loop-reader-preserved g c = loop_go c.args.self.now.levels (sees (classes.Comma ∷ [])) further_expression (state_of c.loop-reader.reader) _ _ refl (sym c.loop-reader-test.ensures) c.in_ok-further_expression.ensures c.loop-reader.invariant
+
+pub loop-reader-smaller : goal.loop-reader-smaller
+unfolding further_expression
+loop-reader-smaller g c = loop_less c.args.self.now.levels (sees (classes.Comma ∷ [])) further_expression (state_of c.loop-reader.reader) _ refl (sym c.loop-reader-test.ensures) c.in_ok-further_expression.ensures
+
+pub returns : goal.returns
+returns g c = loop_end c.args.self.now.levels (sees (classes.Comma ∷ [])) further_expression (state_of c.loop-reader.reader) _ (sym c.loop-reader-test.ensures) c.loop-reader.invariant

@@ -1,0 +1,20 @@
+use Rattle.std.proofs.Common.{◌≡◌, ℕ, List, [], ◌∷◌, Bool, true, false, ◌&&◌, ◌||◌, not, Option, Some, None, drop, refl, sym, ap, ◌∙◌}
+use Rattle.js_lexer.specs.declared.token.Token.{Token}
+use Rattle.js_syntax.specs.declared.kind.Kind.{Kind}
+use Rattle.js_grammar.specs.declared.class.Class.{Class}
+use Rattle.js_grammar.specs.declared.class.Class.TheVariants as classes
+use Rattle.js_grammar.specs.Classes.{class_of, is_one_of}
+use Rattle.js_grammar.specs.Work as work
+use Rattle.js_grammar.specs.Rules as rules
+use Rattle.js_parser.specs.State.{rest_of, state_of}
+use Rattle.js_parser.specs.Changes.{work_in}
+use Rattle.js_parser.proofs.Steps as steps
+use Rattle.js_parser.proofs.Works.{ok_map}
+use Rattle.js_parser.proofs.reader.Reader.clear.Goals as goal
+
+pub returns-in-None : goal.returns-in-None
+unfolding state_of
+returns-in-None c = steps.act_open c.args.self.now rules.clear c.clear.new.self work.cleared c.in-None.is c.clear.ensures refl
+
+pub returns-in-Some : goal.returns-in-Some
+returns-in-Some c = steps.act_stuck c.args.self.now rules.clear _ c.in-Some.is

@@ -1,0 +1,22 @@
+use Rattle.std.proofs.Common.{◌≡◌, ℕ, List, [], ◌∷◌, Bool, true, false, ◌&&◌, ◌||◌, not, Option, Some, None, drop, refl, sym, ap, ◌∙◌}
+use Rattle.js_lexer.specs.declared.token.Token.{Token}
+use Rattle.js_syntax.specs.declared.kind.Kind.{Kind}
+use Rattle.js_grammar.specs.declared.class.Class.{Class}
+use Rattle.js_grammar.specs.declared.class.Class.TheVariants as classes
+use Rattle.js_grammar.specs.Classes.{class_of, is_one_of}
+use Rattle.js_grammar.specs.Work as work
+use Rattle.js_grammar.specs.Rules as rules
+use Rattle.js_parser.specs.State.{rest_of, state_of}
+use Rattle.js_parser.specs.Changes.{work_in}
+use Rattle.js_parser.proofs.Steps as steps
+use Rattle.js_parser.proofs.Works.{ok_map}
+use Rattle.js_parser.proofs.reader.Reader.open.Goals as goal
+
+pub returns-in-None : goal.returns-in-None
+unfolding state_of
+returns-in-None c = ok_map c.open.result
+    (λ _ e. steps.act_open c.args.self.now (rules.open_form c.args.kind) c.open.new.self (work.opened_at c.args.kind c.place-place.result) c.in-None.is e (ap (λ (p : ℕ). work.opened_at c.args.kind p (work_in (rest_of c.args.self.now) c.args.self.now.builder)) c.place-place.ensures))
+    c.open.ensures.work
+
+pub returns-in-Some : goal.returns-in-Some
+returns-in-Some c = steps.act_stuck c.args.self.now (rules.open_form c.args.kind) _ c.in-Some.is

@@ -1,0 +1,52 @@
+use Rattle.std.proofs.Common.{◌≡◌, ℕ, ◌-◌, ◌<◌, List, [], ◌∷◌, ◌++◌, length, drop, Bool, true, false, Option, Some, None, if◌then◌else◌, refl, sym, ap, ◌∙◌, arith}
+use Rattle.js_lexer.specs.declared.token.Token.{Token}
+use Rattle.js_syntax.specs.declared.node.Node.{Node}
+use Rattle.js_grammar.specs.declared.class.Class.{Class}
+use Rattle.js_grammar.specs.declared.form.Form.{Form}
+use Rattle.js_grammar.specs.declared.form.Form.TheVariants as forms
+use Rattle.js_grammar.specs.declared.form.Why.{Why}
+use Rattle.js_grammar.specs.declared.form.Why.TheVariants.{TooDeep, Unexpected}
+use Rattle.js_grammar.specs.Classes.{class_of, is_one_of}
+use Rattle.js_grammar.specs.Work.{Work, State, going, stuck}
+use Rattle.js_grammar.specs.Grammar as grammar
+use Rattle.js_grammar.specs.Grammar.{within, limit}
+use Rattle.js_grammar.specs.Rules.{run}
+use Rattle.js_grammar.specs.Statements as rules
+use Rattle.js_grammar.proofs.Takes.{within_still, within_none, within_one}
+use Rattle.js_parser.specs.State.{state_of, rest_of}
+use Rattle.js_parser.specs.Changes.{work_in}
+use Rattle.js_parser.specs.View.{grown, parts_then, frames_then}
+use Rattle.js_parser.proofs.Steps as steps
+use Rattle.js_parser.proofs.Works.{ok_map}
+use Rattle.js_parser.proofs.scripts.+read.Goals as goal
+
+pub returns-in-Some : goal.returns-in-Some
+returns-in-Some t c = steps.form_stuck c.args.reader.now _ (within c.args.levels c.args.form) c.in-Some.is ((within_still c.args.levels c.args.form).stays _ _)
+
+pub returns-then-levels : goal.returns-then-levels
+returns-then-levels t c = let none : c.args.levels ≡ 0 = omega arith in c.stop_beyond.ensures ∙ sym (within_none c.args.levels c.args.form (state_of c.args.reader.now) none)
+
+pub returns-in-Expression : goal.returns-in-Expression
+returns-in-Expression t c = ok_map c.expression.result
+    (λ _ e. e ∙ sym (ap (λ (f : Form). within c.args.levels f (state_of c.args.reader.now)) c.in-Expression.is ∙ within_one c.args.levels forms.Expression (state_of c.args.reader.now) (omega arith)))
+    c.expression.ensures
+
+pub returns-in-Prefix : goal.returns-in-Prefix
+returns-in-Prefix t c = ok_map c.prefix.result
+    (λ _ e. e ∙ sym (ap (λ (f : Form). within c.args.levels f (state_of c.args.reader.now)) c.in-Prefix.is ∙ within_one c.args.levels forms.Prefix (state_of c.args.reader.now) (omega arith)))
+    c.prefix.ensures
+
+pub returns-in-Statement : goal.returns-in-Statement
+returns-in-Statement t c = ok_map c.statement.result
+    (λ _ e. e ∙ sym (ap (λ (f : Form). within c.args.levels f (state_of c.args.reader.now)) c.in-Statement.is ∙ within_one c.args.levels forms.Statement (state_of c.args.reader.now) (omega arith)))
+    c.statement.ensures
+
+pub returns-in-Item : goal.returns-in-Item
+returns-in-Item t c = ok_map c.item.result
+    (λ _ e. e ∙ sym (ap (λ (f : Form). within c.args.levels f (state_of c.args.reader.now)) c.in-Item.is ∙ within_one c.args.levels forms.Item (state_of c.args.reader.now) (omega arith)))
+    c.item.ensures
+
+pub returns-in-Block : goal.returns-in-Block
+returns-in-Block t c = ok_map c.block.result
+    (λ _ e. e ∙ sym (ap (λ (f : Form). within c.args.levels f (state_of c.args.reader.now)) c.in-Block.is ∙ within_one c.args.levels forms.Block (state_of c.args.reader.now) (omega arith)))
+    c.block.ensures

@@ -1,0 +1,14 @@
+-- What a call does to the work that a builder holds.
+-- This project's own; docs/SCRIPTS.md, "Nodes and places".
+use Rattle.std.specs.Prelude.{◌≡◌, List}
+use Rattle.js_lexer.specs.declared.token.Token.{Token}
+use Rattle.js_grammar.specs.Work.{Work}
+use Rattle.js_parser.specs.declared.builder.Builder.{Builder}
+use Rattle.js_parser.specs.View.{work_of}
+
+abbrev pub work_in : List Token → Builder → Work
+work_in rest b = work_of rest b.script b.top b.below
+
+-- whatever tokens are left, the work is changed like this
+abbrev pub Changes : (Work → Work) → Builder → Builder → Type 0
+Changes f old new = (rest : List Token) → work_in rest new ≡ f (work_in rest old)

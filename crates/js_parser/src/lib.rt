@@ -1,0 +1,27 @@
+//! Scripts from their bytes: a tree exactly where the grammar has one, and else the first bad token.
+//!
+//! Contracts see bytes and tokens as lists, and a script as the tree under its root.
+//! Rely on: `parse` answers what the grammar of `js_grammar` says, save for want of memory.
+//! Over `js_grammar`, `js_lexer` and `js_syntax`; under `js_early` and `isolate_core`.
+//! Begin with `specs/View.antt`, then `src/reader.rt` and `src/statements.rt`.
+#![tactic(auto)]
+
+mod builder;
+mod classes;
+mod declarations;
+mod draft;
+mod expressions;
+mod functions;
+mod grammar;
+mod limit;
+mod lists;
+mod operands;
+mod operators;
+mod reader;
+mod scripts;
+mod shape;
+mod stacks;
+mod statements;
+
+pub use js_lexer::SyntaxFault;
+pub use scripts::parse;

@@ -1,0 +1,137 @@
+//! Scripts from their bytes.
+
+ghost use Rattle.std.specs.Prelude.{◌≡◌, ◌<◌, ◌^◌, List, length, IfOk, IfErr};
+ghost use Rattle.js_lexer.specs.declared.token.Token.{Token};
+ghost use Rattle.js_grammar.specs.Statements as rules;
+ghost use Rattle.js_grammar.specs.Grammar.{within, at_start, answer, accepted, limit, tree_of_parts};
+ghost use Rattle.js_parser.specs.State.{state_of, Runs};
+ghost use Rattle.js_parser.specs.Parsed.{IsScriptOf, IsFault, IsRejected, tree_of};
+ghost use Rattle.js_parser.specs.Changes.{work_in};
+
+use crate::builder::Builder;
+use crate::classes::class_of;
+use crate::draft::Draft;
+use crate::grammar::Grammar;
+use crate::limit::{refusal, stop_beyond};
+use crate::reader::Reader;
+use item_list::Items;
+use ivm_text::NoMemory;
+use js_grammar::Form;
+use js_lexer::{SyntaxFault, Token, lex};
+use js_syntax::{Kind, Script};
+use std::alloc::Global;
+
+/// How many statements, expressions and operators before an operand may be open at a token.
+const LEVELS: u32 = 200;
+
+/// The script of a text of fewer than 2^32 bytes.
+///
+/// The text is refused as `lex` refuses it, and else exactly where the grammar of scripts has no tree for its tokens: at the
+/// byte of the first bad token, or at the number of bytes where no token is bad. The kind is `OutOfProfile`, with the word,
+/// where that token is one that this project leaves out; else `TooDeep` where it may stand there but is open to more than 200
+/// levels; else `Unexpected`.
+pub fn parse(alloc: Global, text: &[u8]) -> Result<Script, SyntaxFault>
+    requires { length text.now < 2 ^ 32 }
+
+    ensures ok { IfOk result (IsScriptOf text.now) }
+    ensures err { IfErr result (IsFault text.now) }
+{
+    match lex(alloc, text) {
+        Ok(tokens) => parse_tokens(alloc, tokens.as_slice(), text.len() as u32),
+        Err(fault) => Err(fault),
+    }
+}
+
+fn parse_tokens(alloc: Global, tokens: &[Token], end: u32) -> Result<Script, SyntaxFault>
+    ensures ok { IfOk result (λ script. answer end tokens.now ≡ accepted (tree_of script)) }
+    ensures err { IfErr result (IsRejected end tokens.now) }
+{
+    let mut reader = start(alloc, tokens)?;
+    script(&mut reader)?;
+    match reader.refused {
+        Some(why) => {
+            let refused = refusal(alloc, &reader, why, end)?;
+            Err(SyntaxFault::Refused(refused))
+        }
+        None => finished(reader.builder),
+    }
+}
+
+/// Nothing is read, and the script is the innermost form.
+fn start(alloc: Global, tokens: &[Token]) -> Result<Reader<'_>, NoMemory>
+    ensures { IfOk result (λ reader. state_of reader ≡ at_start tokens.now) }
+{
+    let outer = Draft::new(alloc, Kind::Absent, 0);
+    let top = Draft::new(alloc, Kind::Script, 0);
+    let script = Script::new(alloc);
+    let class = class_of(tokens);
+    let mut below = Items::new(alloc);
+    below.push(outer)?;
+    Ok(Reader {
+        tokens,
+        at: 0,
+        class,
+        refused: None,
+        builder: Builder {
+            alloc,
+            script,
+            top,
+            below,
+        },
+    })
+}
+
+fn script(reader: &mut Reader<'_>) -> Result<(), NoMemory>
+    ensures { Runs limit rules.script result reader.old reader.new }
+{
+    Grammar {
+        levels: LEVELS,
+        inside: read,
+    }
+    .script(reader)
+}
+
+/// Reads a form where so many levels are left.
+fn read(reader: &mut Reader<'_>, levels: u32, form: Form) -> Result<(), NoMemory>
+    ensures { IfOk result (λ _. state_of reader.new ≡ within levels form (state_of reader.old)) }
+{
+    match reader.refused {
+        Some(_) => Ok(()),
+        None => {
+            if levels == 0 {
+                stop_beyond(reader, form);
+                return Ok(());
+            }
+            let grammar = Grammar {
+                levels: levels - 1,
+                inside: read,
+            };
+            match form {
+                Form::Expression => grammar.expression(reader),
+                Form::Prefix => grammar.prefix(reader),
+                Form::Statement => grammar.statement(reader),
+                Form::Item => grammar.item(reader),
+                Form::Block => grammar.block(reader),
+            }
+        }
+    }
+}
+
+/// The script whose root is the last part of the innermost form. That this part is no other node than the last is tested.
+fn finished(builder: Builder) -> Result<Script, SyntaxFault>
+    ensures ok { IfOk result (λ script. (rest : List Token) → tree_of_parts (work_in rest builder).top.parts ≡ tree_of script) }
+    ensures err { IfErr result (λ fault. fault ≡ SyntaxFault.NoMemory) }
+{
+    let last = builder.last_piece();
+    let script = builder.script;
+    match last {
+        Some(piece) => {
+            if piece.node + 1 == script.len() {
+                Ok(script)
+            } else {
+                Err(SyntaxFault::NoMemory)
+            }
+        }
+        None => Err(SyntaxFault::NoMemory),
+    }
+}
