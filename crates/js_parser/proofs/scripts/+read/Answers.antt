@@ -23,8 +23,8 @@ use Rattle.js_parser.proofs.scripts.+read.Goals as goal
 pub returns-in-Some : goal.returns-in-Some
 returns-in-Some t c = steps.form_stuck c.args.reader.now _ (within c.args.levels c.args.form) c.in-Some.is ((within_still c.args.levels c.args.form).stays _ _)
 
-pub returns-then-levels : goal.returns-then-levels
-returns-then-levels t c = let none : c.args.levels ≡ 0 = omega arith in c.stop_beyond.ensures ∙ sym (within_none c.args.levels c.args.form (state_of c.args.reader.now) none)
+pub returns-then-levels-eq0 : goal.returns-then-levels-eq0
+returns-then-levels-eq0 t c = let none : c.args.levels ≡ 0 = omega arith in c.stop_beyond.ensures ∙ sym (within_none c.args.levels c.args.form (state_of c.args.reader.now) none)
 
 pub returns-in-Expression : goal.returns-in-Expression
 returns-in-Expression t c = ok_map c.expression.result
