@@ -1,14 +1,13 @@
 -- What one more node, and one more part, do to the trees of a builder.
-use Rattle.std.proofs.Common.{◌≡◌, ℕ, zero, suc, ◌+◌, ◌<◌, ◌≤◌, Bool, true, false, ◌&&◌, List, [], ◌∷◌, ◌++◌, length, get_or, refl, sym, ap, ◌∙◌, arith, append_assoc}
-use Rattle.std.specs.Prelude.{map, slice_index_or, nat_lt}
-use Rattle.std.specs.List.{list_all}
+use Rattle.std.proofs.Common.{◌≡◌, ℕ, ◌+◌, ◌<◌, Bool, true, false, ◌&&◌, List, [], ◌∷◌, ◌++◌, length, get_or, refl, sym, ap, ◌∙◌, arith}
+use Rattle.std.specs.Prelude.{map, nat_lt}
 use Rattle.std.proofs.lemmas.List.{length-append, get_or_append_left}
 use Rattle.std.proofs.Math.Seq.{get_or-append_seam}
 use Rattle.std.proofs.lemmas.Bool.Decides.{nat_tests}
 use Rattle.js_syntax.specs.declared.node.Node.{Node}
-use Rattle.js_syntax.specs.Tree.{Head, Trees, nothing, tree}
+use Rattle.js_syntax.specs.Tree.{Trees, nothing}
 use Rattle.js_lexer.specs.declared.token.Token.{Token}
-use Rattle.js_grammar.specs.Work.{Part, Frame, Work, onto, pushed, added, part_of, with_part, head_of}
+use Rattle.js_grammar.specs.Work.{Part, Frame, onto, pushed, added, part_of, head_of}
 use Rattle.js_parser.specs.declared.draft.Piece.{Piece}
 use Rattle.js_parser.specs.declared.draft.Draft.{Draft}
 use Rattle.js_parser.specs.View.{Root, none_there, root_at, root_of, trees_then, grown, part_at, parts_then, frame_of, frames_then, work_of, known, all_known}

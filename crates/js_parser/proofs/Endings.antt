@@ -1,5 +1,5 @@
 -- How reading begins and ends.
-use Rattle.std.proofs.Common.{◌≡◌, ℕ, ◌+◌, ◌-◌, List, [], ◌∷◌, ◌++◌, length, drop, Option, None, Some, Result, Ok, Err, inl, inr, refl, sym, ap, ◌∙◌, arith}
+use Rattle.std.proofs.Common.{◌≡◌, ℕ, ◌+◌, ◌-◌, List, [], ◌∷◌, ◌++◌, length, drop, None, Some, Result, Ok, Err, inl, inr, sym, ap, ◌∙◌, arith}
 use Rattle.std.specs.Prelude.{IfErr}
 use Rattle.js_lexer.specs.declared.token.SyntaxFault.{SyntaxFault}
 use Rattle.js_lexer.specs.declared.token.SyntaxFault.TheVariants as faults
@@ -10,14 +10,14 @@ use Rattle.js_syntax.specs.declared.node.Node.{Node}
 use Rattle.js_syntax.specs.declared.kind.Kind.TheVariants as kinds
 use Rattle.js_syntax.specs.Tree.{Trees, nothing, tree}
 use Rattle.js_grammar.specs.declared.form.Why.{Why}
-use Rattle.js_grammar.specs.Work.{Work, Part, State, going, stuck}
+use Rattle.js_grammar.specs.Work.{Part, State, going}
 use Rattle.js_grammar.specs.Rules.{run}
 use Rattle.js_grammar.specs.Statements.{script}
 use Rattle.js_grammar.specs.Grammar.{within, limit, at_start, reading, answer, answer_of, accepted, rejected, refusal_at, tree_of_parts}
 use Rattle.js_parser.specs.declared.draft.Piece.{Piece}
 use Rattle.js_parser.specs.declared.draft.Draft.{Draft}
 use Rattle.js_parser.specs.declared.reader.Reader.{Reader}
-use Rattle.js_parser.specs.View.{grown, root_at, part_at, parts_then, frames_then, work_of}
+use Rattle.js_parser.specs.View.{grown, root_at, parts_then, frames_then, work_of}
 use Rattle.js_parser.specs.Changes.{work_in}
 use Rattle.js_parser.specs.State.{state_of, rest_of}
 use Rattle.js_parser.specs.Parsed.{tree_of, IsScriptOf, IsFault, IsRejected}

@@ -1,5 +1,5 @@
 -- What steps of a reader do to where it stands.
-use Rattle.std.proofs.Common.{◌≡◌, ℕ, zero, suc, ◌+◌, ◌<◌, ◌≤◌, Bool, true, false, ◌&&◌, not, cond, List, [], ◌∷◌, length, get_or, drop, pos, Option, Some, None, inl, inr, refl, sym, ap, ◌∙◌, arith, add-one, drop-cons}
+use Rattle.std.proofs.Common.{◌≡◌, ℕ, ◌+◌, ◌<◌, ◌≤◌, Bool, true, false, ◌&&◌, List, [], ◌∷◌, length, get_or, drop, pos, Option, Some, None, inl, inr, refl, sym, ap, ◌∙◌, arith, add-one, drop-cons}
 use Rattle.std.specs.Prelude.{nat_lt}
 use Rattle.std.proofs.lemmas.Bool.Decides.{nat_tests}
 use Rattle.std.proofs.lemmas.Bool.{cases_Bool}
@@ -10,7 +10,7 @@ use Rattle.js_grammar.specs.declared.class.Class.{Class}
 use Rattle.js_grammar.specs.declared.form.Why.{Why}
 use Rattle.js_grammar.specs.declared.form.Why.TheVariants.{Unexpected}
 use Rattle.js_grammar.specs.Work.{Work, State, going, stuck}
-use Rattle.js_grammar.specs.Rules.{Test, Action, Rule, passes, passes_on, after, work_after, take_one, taken, refused}
+use Rattle.js_grammar.specs.Rules.{Test, Action, passes, passes_on, after, work_after, take_one, taken, refused}
 use Rattle.ivm_text.specs.declared.refusal.Refusal.{Refusal}
 use Rattle.ivm_text.specs.declared.refusal.RefusalKind.{RefusalKind}
 use Rattle.js_grammar.specs.declared.class.Class.TheVariants as classes

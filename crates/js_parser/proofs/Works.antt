@@ -1,5 +1,5 @@
 -- What the steps of a builder come to, over works as they are.
-use Rattle.std.proofs.Common.{◌≡◌, ℕ, zero, suc, ◌+◌, ◌<◌, Bool, true, false, ◌&&◌, List, [], ◌∷◌, ◌++◌, length, Option, Some, None, Result, Ok, Err, slice_get, pos, refl, sym, ap, ◌∙◌, subst, arith}
+use Rattle.std.proofs.Common.{◌≡◌, ℕ, zero, suc, ◌+◌, ◌<◌, true, false, ◌&&◌, List, [], ◌∷◌, ◌++◌, length, Option, Some, None, Result, Ok, Err, slice_get, pos, refl, sym, ap, ◌∙◌, subst, arith}
 use Rattle.std.specs.Prelude.{map, nat_lt, nat_eq, IfOk}
 use Rattle.std.specs.Fmt.{signed_decimal}
 use Rattle.js_lexer.specs.declared.token.Token.{Token}
@@ -11,10 +11,10 @@ use Rattle.std.proofs.lemmas.List.{length-append, get_or_append_left}
 use Rattle.std.proofs.Math.Seq.{get_or-append_seam}
 use Rattle.js_syntax.specs.Tree.{Head, Trees, nothing, tree}
 use Rattle.js_grammar.specs.declared.form.Cover.TheVariants as covers
-use Rattle.js_grammar.specs.Work.{Part, Frame, Work, fresh, pushed, added, opened_at, preceded, preceded_by, closed, closed_in, paired, paired_of, pair_of, unwrapped, unwrapped_in, with_part, bare_of, bare_name, cleared, offered, offered_part, offered_as, last_name, leaf_name, shorthand_of, shorthanded, is_name, is_number, key_of, with_one_name, with_place}
+use Rattle.js_grammar.specs.Work.{Part, Frame, Work, fresh, pushed, added, opened_at, preceded, preceded_by, closed, closed_in, paired, paired_of, pair_of, unwrapped, unwrapped_in, bare_of, bare_name, cleared, offered, offered_part, offered_as, last_name, leaf_name, shorthand_of, shorthanded, is_name, is_number, key_of, with_one_name, with_place}
 use Rattle.js_parser.specs.declared.draft.Piece.{Piece}
 use Rattle.js_parser.specs.declared.draft.Draft.{Draft}
-use Rattle.js_parser.specs.View.{Root, root_at, root_of, none_there, grown, part_at, parts_then, frame_of, frames_then, work_of, known, all_known}
+use Rattle.js_parser.specs.View.{Root, root_at, root_of, none_there, grown, part_at, parts_then, frame_of, frames_then, work_of, known}
 use Rattle.js_parser.proofs.Built.{frames_snoc, parts_snoc, both, true_below}
 
 pub ok_map : {A E : Type 0} {P Q : A → Type 0} (r : Result A E) → ((a : A) → P a → Q a) → IfOk r P → IfOk r Q

@@ -1,6 +1,6 @@
 -- The tables of the code, as lists of entries. No caller needs this.
 -- This project's own; docs/SCRIPTS.md, "Reserved words".
-use Rattle.std.specs.Prelude.{ℕ, List, [], ◌∷◌, map}
+use Rattle.std.specs.Prelude.{ℕ, List, map}
 use Rattle.std.specs.Borrow.{Bor}
 use Rattle.js_grammar.specs.declared.class.Class.{Class}
 use Rattle.js_grammar.specs.Classes.{Entry, entry}

@@ -1,6 +1,6 @@
 -- The work that a builder holds: the trees of its nodes, and its open forms as frames.
 -- This project's own; docs/SCRIPTS.md, "Nodes and places".
-use Rattle.std.specs.Prelude.{◌≡◌, ℕ, zero, suc, ◌+◌, Bool, true, ◌&&◌, List, [], ◌∷◌, ◌++◌, length, map, pos, None, slice_index_or, nat_lt}
+use Rattle.std.specs.Prelude.{ℕ, Bool, true, ◌&&◌, List, [], ◌∷◌, ◌++◌, length, slice_index_or, nat_lt}
 use Rattle.std.specs.List.{list_all}
 use Rattle.js_syntax.specs.declared.node.Node.{Node}
 use Rattle.js_syntax.specs.declared.kind.Kind.TheVariants as kinds

@@ -1,6 +1,5 @@
 -- What the code knows of the shape of a kind. No caller needs this.
 -- This project's own; docs/SCRIPTS.md, "Nodes and places".
-use Rattle.std.specs.Prelude.{ℕ}
 use Rattle.js_syntax.specs.Shape as shapes
 use Rattle.js_syntax.specs.Shape.{Count, Named, Shape, shape}
 use Rattle.js_parser.specs.declared.shape.Amount.{Amount}

@@ -1,12 +1,8 @@
-use Rattle.std.proofs.Common.{◌≡◌, ℕ, ◌+◌, ◌-◌, ◌<◌, ◌≤◌, List, [], ◌∷◌, ◌++◌, length, drop, Option, Some, None, true, refl, sym, ap, ◌∙◌, arith}
-use Rattle.js_lexer.specs.declared.token.Token.{Token}
-use Rattle.js_syntax.specs.declared.node.Node.{Node}
+use Rattle.std.proofs.Common.{ℕ, List, [], ◌∷◌, ◌++◌, length, ap, ◌∙◌}
 use Rattle.js_parser.specs.declared.draft.Draft.{Draft}
-use Rattle.js_parser.specs.State.{state_of, rest_of}
-use Rattle.js_parser.specs.Parsed.{tree_of}
-use Rattle.js_parser.specs.View.{known, all_known}
+use Rattle.js_parser.specs.State.{state_of}
+use Rattle.js_parser.specs.View.{known}
 use Rattle.js_parser.proofs.Built.{put_known, none_known}
-use Rattle.js_parser.proofs.Works.{ok_map}
 use Rattle.js_parser.proofs.Endings as endings
 use Rattle.js_parser.proofs.scripts.start.Goals as goal
 

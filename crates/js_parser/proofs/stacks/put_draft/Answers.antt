@@ -1,4 +1,3 @@
-use Rattle.std.proofs.Common.{◌≡◌, true}
 use Rattle.js_parser.proofs.Built.{put_known, same_known}
 use Rattle.js_parser.proofs.stacks.put_draft.Goals as goal
 

@@ -1,4 +1,3 @@
-use Rattle.std.proofs.Common.{◌≡◌, true}
 use Rattle.js_parser.proofs.Built.{left_known, last_known, none_known}
 use Rattle.js_parser.proofs.stacks.take_draft.Goals as goal
 

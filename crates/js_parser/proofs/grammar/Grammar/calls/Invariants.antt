@@ -1,11 +1,8 @@
-use Rattle.std.proofs.Common.{◌≡◌, List, [], ◌∷◌, true, refl, sym, ap, ◌∙◌}
+use Rattle.std.proofs.Common.{◌≡◌, [], ◌∷◌}
 use Rattle.js_grammar.specs.declared.class.Class.TheVariants as classes
-use Rattle.js_grammar.specs.declared.form.Form.TheVariants as forms
-use Rattle.js_grammar.specs.declared.form.Form.TheVariants.{Item}
-use Rattle.js_grammar.specs.Rules.{Rule, Test, run, left, passes, sees, sees_other, many, inside, either, act, ◌▸◌}
-use Rattle.js_grammar.specs.Grammar.{within}
-use Rattle.js_grammar.specs.Expressions.{access, call, calls, index, member}
-use Rattle.js_grammar.proofs.Takes.{looped, loop_go, loop_less, loop_end}
+use Rattle.js_grammar.specs.Rules.{left, sees}
+use Rattle.js_grammar.specs.Expressions.{access}
+use Rattle.js_grammar.proofs.Takes.{looped}
 use Rattle.js_parser.specs.State.{state_of}
 use Rattle.js_parser.proofs.grammar.Grammar.calls.Given as goal
 
