@@ -1,8 +1,8 @@
-//! Tests of `js_lexer` by tables: texts with their tokens, or their first fault.
+//! Tests of `js_lexer` and `js_parser` by tables: texts with their tokens, their nodes, or their first fault.
 //!
 //! Contracts see nothing here: it has tests alone.
-//! Rely on: each answer was worked out from the rules in docs/SCRIPTS.md, never from the lexer's own output.
-//! Over `js_lexer`; under no crate.
+//! Rely on: each answer was worked out from the rules in docs/SCRIPTS.md, never from the code's own output.
+//! Over `js_lexer` and `js_parser`; under no crate.
 //! Begin with `src/reading.rt`, then `src/faults.rt`.
 #![tactic(auto)]
 
