@@ -2,7 +2,7 @@
 use Rattle.std.proofs.Common.{◌≡◌, ℕ, zero, suc, ◌-◌, ◌<◌, ◌≤◌, true, false, List, length, refl, sym, ap, ◌∙◌, subst, arith}
 use Rattle.js_lexer.specs.declared.token.Token.{Token}
 use Rattle.js_grammar.specs.declared.form.Form.{Form}
-use Rattle.js_grammar.specs.declared.form.Form.TheVariants.{Expression, Prefix, Statement, Item, Block}
+use Rattle.js_grammar.specs.declared.form.Form.TheVariants.{Expression, Prefix, Statement, Item, Block, Literal}
 use Rattle.js_grammar.specs.declared.form.Why.{Why}
 use Rattle.js_grammar.specs.Work.{Work, State, going, stuck}
 use Rattle.js_grammar.specs.Rules.{Rule, left, run, passes, repeated, Test}
@@ -10,15 +10,17 @@ use Rattle.js_grammar.specs.Grammar.{within, beyond, rule_of}
 use Rattle.js_grammar.specs.Expressions.{expression, covered, named_first, name_leaf, own_name, prefix_first, primary_first, primary, number_leaf, text_leaf, word_leaf, leaf, array, object, function_expression, name_if_any, construction, prefix}
 use Rattle.js_grammar.specs.Statements.{statement, item, block, empty_statement, if_statement, while_statement, for_statement, try_statement, simple_statement, jump, return_statement, throw_statement, expression_statement, ended_expression, let_declaration, const_declaration, let_list, const_list, function_declaration}
 use Rattle.js_grammar.specs.Expressions.{expression_list}
+use Rattle.js_grammar.specs.Literals.{literal, negative, constant_word, literal_array, literal_object}
 use Rattle.js_grammar.proofs.Laws.{takes, Eats, Keeps, Inside, Turning, Still, run_still, run_eats, run_keeps, turning, repeated_go, repeated_end}
 
 pub rules_take : (form : Form) → takes (rule_of form) ≡ true
-unfolding expression covered named_first name_leaf own_name prefix_first primary_first primary number_leaf text_leaf word_leaf leaf array object function_expression name_if_any construction prefix statement item block empty_statement if_statement while_statement for_statement try_statement simple_statement jump return_statement throw_statement expression_statement ended_expression let_declaration const_declaration let_list const_list function_declaration expression_list
+unfolding expression covered named_first name_leaf own_name prefix_first primary_first primary number_leaf text_leaf word_leaf leaf array object function_expression name_if_any construction prefix statement item block empty_statement if_statement while_statement for_statement try_statement simple_statement jump return_statement throw_statement expression_statement ended_expression let_declaration const_declaration let_list const_list function_declaration expression_list literal negative constant_word literal_array literal_object
 rules_take Expression = refl
 rules_take Prefix = refl
 rules_take Statement = refl
 rules_take Item = refl
 rules_take Block = refl
+rules_take Literal = refl
 
 beyond_eats : (form : Form) → Eats (beyond form)
 beyond_eats form = record { less = λ s. of s }

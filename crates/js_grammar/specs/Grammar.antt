@@ -10,7 +10,7 @@ use Rattle.js_lexer.specs.declared.token.Token.{Token}
 use Rattle.js_grammar.specs.declared.class.Class.{Class}
 use Rattle.js_grammar.specs.declared.class.Class.TheVariants as classes
 use Rattle.js_grammar.specs.declared.form.Form.{Form}
-use Rattle.js_grammar.specs.declared.form.Form.TheVariants.{Expression, Prefix, Statement, Item, Block}
+use Rattle.js_grammar.specs.declared.form.Form.TheVariants.{Expression, Prefix, Statement, Item, Block, Literal}
 use Rattle.js_grammar.specs.declared.form.Why.{Why}
 use Rattle.js_grammar.specs.declared.form.Why.TheVariants.{Unexpected, TooDeep}
 use Rattle.js_grammar.specs.Classes.{class_of, is_one_of}
@@ -18,6 +18,7 @@ use Rattle.js_grammar.specs.Work.{Part, Frame, Work, State, going, stuck, fresh}
 use Rattle.js_grammar.specs.Rules.{Rule, run}
 use Rattle.js_grammar.specs.Expressions.{expression_begins, prefix_operators, expression, prefix}
 use Rattle.js_grammar.specs.Statements.{statement_begins, item_begins, statement, item, block, script}
+use Rattle.js_grammar.specs.Literals.{literal_begins, literal, literal_text, arguments_text}
 
 -- ---- levels
 
@@ -27,6 +28,7 @@ begins Prefix = prefix_operators
 begins Statement = statement_begins
 begins Item = item_begins
 begins Block = classes.BraceOpen ∷ []
+begins Literal = literal_begins
 
 abbrev pub rule_of : Form → Rule
 rule_of Expression = expression
@@ -34,6 +36,7 @@ rule_of Prefix = prefix
 rule_of Statement = statement
 rule_of Item = item
 rule_of Block = block
+rule_of Literal = literal
 
 abbrev pub refused_at_limit : Form → List Token → Why
 refused_at_limit form ts = if is_one_of (class_of ts) (begins form) then TooDeep else Unexpected
@@ -57,9 +60,9 @@ limit = 200
 abbrev pub at_start : List Token → State
 at_start ts = going (record { rest = ts; made = 0; top = fresh kinds.Script 0; below = fresh kinds.Absent 0 ∷ [] })
 
--- what reading the tokens comes to
-abbrev pub reading : List Token → State
-reading ts = run (within limit) script (at_start ts)
+-- what reading the tokens of a text comes to, by the rule for the whole of it, where so many levels may be open
+abbrev pub reading : ℕ → Rule → List Token → State
+reading levels whole ts = run (within levels) whole (at_start ts)
 
 -- ---- answers
 
@@ -91,6 +94,16 @@ abbrev pub answer_of : ℕ → State → Answer
 answer_of end (going w) = accepted (tree_of_parts w.top.parts)
 answer_of end (stuck why ts) = rejected (refusal_at end why ts)
 
--- the answer to a text of so many bytes and with these tokens
+-- the answer to a text of so many bytes and with these tokens, by the rule for the whole of it
+abbrev pub answer_by : Rule → ℕ → List Token → Answer
+answer_by whole end ts = answer_of end (reading limit whole ts)
+
+-- as a script, as one literal, and as arguments
 abbrev pub answer : ℕ → List Token → Answer
-answer end ts = answer_of end (reading ts)
+answer end ts = answer_by script end ts
+
+abbrev pub literal_answer : ℕ → List Token → Answer
+literal_answer end ts = answer_by literal_text end ts
+
+abbrev pub arguments_answer : ℕ → List Token → Answer
+arguments_answer end ts = answer_by arguments_text end ts

@@ -3,4 +3,5 @@ pub mod Work
 pub mod Rules
 pub mod Expressions
 pub mod Statements
+pub mod Literals
 pub mod Grammar

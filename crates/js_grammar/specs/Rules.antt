@@ -1,6 +1,7 @@
 -- Rules, as lists of steps, and what a rule does with tokens: one token of view decides.
 -- This project's own, in the manner of ECMA-262's Grammar Notation; docs/SCRIPTS.md, "How the grammar is written".
-use Rattle.std.specs.Prelude.{◌≡◌, ℕ, zero, suc, Bool, true, false, not, ◌&&◌, ◌||◌, List, [], ◌∷◌, length, if◌then◌else◌}
+use Rattle.std.specs.Prelude.{◌≡◌, ℕ, zero, suc, ℤ, pos, codes, Bool, true, false, not, ◌&&◌, ◌||◌, List, [], ◌∷◌, length, if◌then◌else◌}
+use Rattle.std.specs.Ordering.{int_eq}
 use Rattle.js_syntax.specs.declared.kind.Kind.{Kind}
 use Rattle.js_syntax.specs.declared.kind.Kind.TheVariants as kinds
 use Rattle.js_lexer.specs.declared.token.Token.{Token}
@@ -13,8 +14,8 @@ use Rattle.js_grammar.specs.declared.form.Cover.{Cover}
 use Rattle.js_grammar.specs.declared.form.Cover.TheVariants as covers
 use Rattle.js_grammar.specs.declared.form.Why.{Why}
 use Rattle.js_grammar.specs.declared.form.Why.TheVariants.{Unexpected}
-use Rattle.js_grammar.specs.Classes.{class_of, is_one_of}
-use Rattle.js_grammar.specs.Work.{Work, State, going, stuck, opened, preceded, closed, paired, unwrapped, named_by, declared_by, keyed_by, valued_by, shorthanded, offered, only_parameters, cleared, omitted}
+use Rattle.js_grammar.specs.Classes.{class_of, is_one_of, is_among}
+use Rattle.js_grammar.specs.Work.{Work, State, going, stuck, is_number, opened, preceded, closed, paired, unwrapped, named_by, declared_by, keyed_by, valued_by, shorthanded, offered, only_parameters, cleared, omitted}
 
 -- ---- the words of rules
 
@@ -30,6 +31,10 @@ pub data Test : Type 0 where
   sees_word : Test
   -- it is a word, a string or a number
   sees_key : Test
+  -- it is a number, and not 0
+  sees_nonzero : Test
+  -- it is a word that says what an argument passes
+  sees_passing : Test
   -- a line terminator stands before it
   after_line : Test
   -- a statement may end before it without a `;`: it is `}`, or the end, or a line terminator stands before it
@@ -90,6 +95,18 @@ abbrev pub is_key_kind : TokenKind → Bool
 is_key_kind tokens.Punct = false
 is_key_kind _ = true
 
+-- what an argument may pass beside plain copies
+unfoldable pub passing_words : List (List ℕ)
+passing_words = codes "ref" ∷ codes "deref" ∷ codes "copy" ∷ codes "into" ∷ codes "callback" ∷ []
+
+abbrev pub is_nonzero : List Token → Bool
+is_nonzero [] = false
+is_nonzero (t ∷ ts) = is_number t.kind && not (int_eq t.number (pos 0))
+
+abbrev pub is_passing : List Token → Bool
+is_passing [] = false
+is_passing (t ∷ ts) = is_word_kind t.kind && is_among passing_words t.text
+
 abbrev pub kind_passes : (TokenKind → Bool) → List Token → Bool
 kind_passes test [] = false
 kind_passes test (t ∷ ts) = test t.kind
@@ -113,6 +130,8 @@ passes_on (sees_other cs) ts cover = not (is_one_of (class_of ts) cs)
 passes_on (sees_on_line cs) ts cover = is_one_of (class_of ts) cs && not (is_line ts)
 passes_on sees_word ts cover = kind_passes is_word_kind ts
 passes_on sees_key ts cover = kind_passes is_key_kind ts
+passes_on sees_nonzero ts cover = is_nonzero ts
+passes_on sees_passing ts cover = is_passing ts
 passes_on after_line ts cover = is_line ts
 passes_on may_end ts cover = ends_statement ts
 passes_on may_be_parameters ts cover = is_names cover

@@ -12,6 +12,8 @@ pub enum Form {
     Item,
     /// `{`, items, `}`.
     Block,
+    /// A value that stands for itself: no names, no operators but a `-` before a number.
+    Literal,
 }
 
 /// What stands behind a `(`, as far as it has been read.
