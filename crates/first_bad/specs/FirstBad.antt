@@ -1,0 +1,57 @@
+-- What the first bad token of a text is.
+-- This project's own; docs/SCRIPTS.md, "The grammar of scripts".
+use Rattle.std.specs.Prelude.{◌≡◌, ℕ, List, [], ◌∷◌, ◌++◌, codes}
+use Rattle.js_lexer.specs.declared.token.Token.{Token}
+use Rattle.js_lexer.specs.declared.token.TokenKind.TheVariants.{Word}
+use Rattle.js_grammar.specs.declared.class.Class.TheVariants.{Foreign}
+use Rattle.js_grammar.specs.declared.form.Why.{Why}
+use Rattle.js_grammar.specs.declared.form.Why.TheVariants.{Unexpected, TooDeep}
+use Rattle.js_grammar.specs.Classes.{class_of}
+use Rattle.js_grammar.specs.Work.{Work, going, stuck}
+use Rattle.js_grammar.specs.Rules.{Rule}
+use Rattle.js_grammar.specs.Grammar.{reading}
+use Rattle.first_bad.specs.Viable.{Reads, Viable}
+
+-- the token is the word `new`, and begins no construction before these tokens
+abbrev pub IsOtherNew : Token → List Token → Type 0
+IsOtherNew t v = (t.kind ≡ Word) × (t.text ≡ codes "new") × (class_of (t ∷ v) ≡ Foreign)
+
+-- us, a token and those behind it, or nothing at the end, can't stand behind the tokens before
+pub record IsUnexpected (whole : Rule) (before us : List Token) : Type 0 where
+  -- they are no text, however many levels may be open,
+  pub no_text : ¬ (Reads whole (before ++ us))
+  -- and no text begins with the tokens up to that one, however it goes on;
+  pub no_start : (t : Token) (v : List Token) → us ≡ t ∷ v → ¬ (IsOtherNew t v)
+      → ¬ (Viable whole (before ++ t ∷ []))
+  -- with a `new` that begins no construction one may begin, but only where it does begin one
+  pub no_other : (t : Token) (v more : List Token) → us ≡ t ∷ v → class_of (t ∷ v) ≡ class_of (t ∷ more)
+      → ¬ (Reads whole (before ++ t ∷ more))
+
+-- us is a token, and those behind it; texts may begin with it too, but none in which only so many levels are open
+pub record OpensTooMany (whole : Rule) (levels : ℕ) (before us : List Token) : Type 0 where
+  pub token : Token
+  pub behind : List Token
+  pub is : us ≡ token ∷ behind
+  pub may_go_on : Viable whole (before ++ token ∷ [])
+  pub too_deep : (more : List Token) (w : Work)
+      → ¬ (reading levels whole (before ++ token ∷ more) ≡ going w)
+
+-- the reason for which us is refused behind the tokens before, where so many levels may be open
+abbrev pub IsRefused : Why → Rule → ℕ → List Token → List Token → Type 0
+IsRefused Unexpected whole levels before us = IsUnexpected whole before us
+IsRefused TooDeep whole levels before us = OpensTooMany whole levels before us
+
+-- the first bad token of ts is the first of us, refused for such a reason; where us is nothing, the text ends too early
+pub record IsFirstBad (whole : Rule) (levels : ℕ) (ts : List Token) (why : Why) (us : List Token) : Type 0 where
+  pub before : List Token
+  pub split : ts ≡ before ++ us
+  -- a text begins with the tokens before it,
+  pub may_go_on : Viable whole before
+  -- and with the bad one none, or none of so few levels
+  pub refused : IsRefused why whole levels before us
+
+-- wherever reading by this rule stands, it stands at the first bad token
+abbrev pub StandsAtFirstBad : Rule → Type 0
+StandsAtFirstBad whole =
+    (levels : ℕ) (ts : List Token) (why : Why) (us : List Token)
+    → reading levels whole ts ≡ stuck why us → IsFirstBad whole levels ts why us

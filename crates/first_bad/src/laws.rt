@@ -1,0 +1,19 @@
+//! At which token a text is refused.
+ghost use Rattle.js_grammar.specs.Literals.{arguments_text, literal_text};
+ghost use Rattle.js_grammar.specs.Statements.{script};
+ghost use Rattle.first_bad.specs.FirstBad.{StandsAtFirstBad};
+
+/// Where reading a script stands, it stands at the first bad token.
+pub fn scripts_stand_at_first_bad()
+    ensures { StandsAtFirstBad script }
+{}
+
+/// The same of the text of one literal.
+pub fn literals_stand_at_first_bad()
+    ensures { StandsAtFirstBad literal_text }
+{}
+
+/// The same of a text of arguments.
+pub fn arguments_stand_at_first_bad()
+    ensures { StandsAtFirstBad arguments_text }
+{}

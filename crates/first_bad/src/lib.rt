@@ -1,0 +1,13 @@
+//! Laws of the first bad token of a text, above the grammar that `js_grammar` has.
+//!
+//! Contracts see tokens as a list, and the grammar as the rule for the whole of a text.
+//! Rely on: a text begins with the tokens before the one that is refused, and none with that one too.
+//! Over `js_grammar`; under no crate.
+//! Begin with `specs/Viable.antt`, then `specs/FirstBad.antt`.
+#![tactic(auto)]
+
+mod laws;
+
+pub use laws::{
+    arguments_stand_at_first_bad, literals_stand_at_first_bad, scripts_stand_at_first_bad,
+};
