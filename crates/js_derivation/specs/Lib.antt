@@ -1,0 +1,7 @@
+pub mod Spots
+pub mod Expressions
+pub mod Statements
+pub mod Literals
+pub mod Derives
+pub mod Exactly
+pub mod FirstBad
