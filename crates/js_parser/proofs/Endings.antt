@@ -1,9 +1,5 @@
 -- How reading begins and ends.
-use Rattle.std.proofs.Common.{◌≡◌, ℕ, ◌+◌, ◌-◌, List, [], ◌∷◌, ◌++◌, length, drop, None, Some, Result, Ok, Err, inl, inr, sym, ap, ◌∙◌, arith}
-use Rattle.std.specs.Prelude.{IfErr}
-use Rattle.js_lexer.specs.declared.token.SyntaxFault.{SyntaxFault}
-use Rattle.js_lexer.specs.declared.token.SyntaxFault.TheVariants as faults
-use Rattle.js_lexer.specs.Tokens.{AreTokens, IsFaultOf}
+use Rattle.std.proofs.Common.{◌≡◌, ℕ, ◌+◌, ◌-◌, List, [], ◌∷◌, ◌++◌, length, drop, None, Some, sym, ap, ◌∙◌, arith}
 use Rattle.ivm_text.specs.declared.refusal.Refusal.{Refusal}
 use Rattle.js_lexer.specs.declared.token.Token.{Token}
 use Rattle.js_syntax.specs.declared.node.Node.{Node}
@@ -11,16 +7,15 @@ use Rattle.js_syntax.specs.declared.kind.Kind.TheVariants as kinds
 use Rattle.js_syntax.specs.Tree.{Trees, nothing, tree}
 use Rattle.js_grammar.specs.declared.form.Why.{Why}
 use Rattle.js_grammar.specs.Work.{Part, State, going}
-use Rattle.js_grammar.specs.Rules.{run}
-use Rattle.js_grammar.specs.Statements.{script}
-use Rattle.js_grammar.specs.Grammar.{within, limit, at_start, reading, answer, answer_of, accepted, rejected, refusal_at, tree_of_parts}
+use Rattle.js_grammar.specs.Rules.{Rule, run}
+use Rattle.js_grammar.specs.Grammar.{within, limit, at_start, reading, answer_by, answer_of, accepted, rejected, refusal_at, tree_of_parts}
 use Rattle.js_parser.specs.declared.draft.Piece.{Piece}
 use Rattle.js_parser.specs.declared.draft.Draft.{Draft}
 use Rattle.js_parser.specs.declared.reader.Reader.{Reader}
 use Rattle.js_parser.specs.View.{grown, root_at, parts_then, frames_then, work_of}
 use Rattle.js_parser.specs.Changes.{work_in}
 use Rattle.js_parser.specs.State.{state_of, rest_of}
-use Rattle.js_parser.specs.Parsed.{tree_of, IsScriptOf, IsFault, IsRejected}
+use Rattle.js_parser.specs.View.{tree_of}
 use Rattle.js_parser.proofs.Works.{fresh_draft, last_part}
 use Rattle.js_parser.proofs.Steps.{state_going, state_stuck}
 
@@ -33,15 +28,15 @@ started ts nodes top outer below en et eb eo =
     ∙ ap (λ (b : List Draft). going (work_of (drop 0 ts) [] (fresh_draft kinds.Script 0) b)) eb
     ∙ ap (λ (o : Draft). going (work_of (drop 0 ts) [] (fresh_draft kinds.Script 0) (o ∷ []))) eo
 
-pub read_whole : (ts : List Token) (s0 s : State) → s0 ≡ at_start ts → s ≡ run (within limit) script s0 → s ≡ reading ts
-read_whole ts s0 s e0 e = e ∙ ap (λ (q : State). run (within limit) script q) e0
+pub read_whole : (whole : Rule) (ts : List Token) (s0 s : State) → s0 ≡ at_start ts → s ≡ run (within limit) whole s0 → s ≡ reading limit whole ts
+read_whole whole ts s0 s e0 e = e ∙ ap (λ (q : State). run (within limit) whole q) e0
 
-pub rejected_as : (end : ℕ) (ts : List Token) (r : Reader) (why : Why) (x : Refusal) → state_of r ≡ reading ts → r.refused ≡ Some why → x ≡ refusal_at end why (rest_of r) → answer end ts ≡ rejected x
-rejected_as end ts r why x e stands is =
+pub rejected_as : (whole : Rule) (end : ℕ) (ts : List Token) (r : Reader) (why : Why) (x : Refusal) → state_of r ≡ reading limit whole ts → r.refused ≡ Some why → x ≡ refusal_at end why (rest_of r) → answer_by whole end ts ≡ rejected x
+rejected_as whole end ts r why x e stands is =
     ap (λ (s : State). answer_of end s) (sym e ∙ state_stuck r why stands) ∙ ap (λ (y : Refusal). rejected y) (sym is)
 
-pub accepted_as : (end : ℕ) (ts : List Token) (r : Reader) (t : Trees) → state_of r ≡ reading ts → r.refused ≡ None → tree_of_parts (work_in (rest_of r) r.builder).top.parts ≡ t → answer end ts ≡ accepted t
-accepted_as end ts r t e goes is = ap (λ (s : State). answer_of end s) (sym e ∙ state_going r goes) ∙ ap (λ (u : Trees). accepted u) is
+pub accepted_as : (whole : Rule) (end : ℕ) (ts : List Token) (r : Reader) (t : Trees) → state_of r ≡ reading limit whole ts → r.refused ≡ None → tree_of_parts (work_in (rest_of r) r.builder).top.parts ≡ t → answer_by whole end ts ≡ accepted t
+accepted_as whole end ts r t e goes is = ap (λ (s : State). answer_of end s) (sym e ∙ state_going r goes) ∙ ap (λ (u : Trees). accepted u) is
 
 pub finished_tree : (nodes : List Node) (pieces front : List Piece) (p : Piece) → pieces ≡ front ++ p ∷ [] → p.node + 1 ≡ length nodes
     → tree_of_parts (parts_then (grown [] nodes) pieces []) ≡ tree_of nodes
@@ -49,22 +44,3 @@ finished_tree nodes pieces front p e last =
     let at : p.node ≡ length nodes - 1 = omega arith in
     ap (λ (ps : List Part). tree_of_parts ps) (last_part (grown [] nodes) pieces front p e)
     ∙ ap (λ (n : ℕ). tree (root_at (grown [] nodes) n).head (root_at (grown [] nodes) n).kids nothing) at
-
--- ---- faults
-
-pub err_map : {A E : Type 0} {P Q : E → Type 0} (r : Result A E) → ((e : E) → P e → Q e) → IfErr r P → IfErr r Q
-err_map (Ok a) f h = tt
-err_map (Err e) f h = f e h
-
-pub lexer_fault : (bytes : List ℕ) (f : SyntaxFault) → IsFaultOf bytes f → IsFault bytes f
-lexer_fault bytes (faults.Refused r) h = inl h
-lexer_fault bytes faults.NoMemory h = tt
-
-pub grammar_fault : (bytes : List ℕ) (end : ℕ) (ts us : List Token) (f : SyntaxFault) → AreTokens bytes ts → us ≡ ts → end ≡ length bytes → IsRejected end us f → IsFault bytes f
-grammar_fault bytes end ts us (faults.Refused r) are same long h =
-    inr (record { tokens = ts; are_its_tokens = are; is_their_refusal = sym (ap (λ (n : ℕ). answer n ts) long) ∙ sym (ap (λ (vs : List Token). answer end vs) same) ∙ h })
-grammar_fault bytes end ts us faults.NoMemory are same long h = tt
-
-pub grammar_script : (bytes : List ℕ) (end : ℕ) (ts us : List Token) (nodes : List Node) → AreTokens bytes ts → us ≡ ts → end ≡ length bytes → answer end us ≡ accepted (tree_of nodes) → IsScriptOf bytes nodes
-grammar_script bytes end ts us nodes are same long h =
-    record { tokens = ts; are_its_tokens = are; is_their_tree = sym (ap (λ (n : ℕ). answer n ts) long) ∙ sym (ap (λ (vs : List Token). answer end vs) same) ∙ h }

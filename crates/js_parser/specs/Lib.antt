@@ -4,4 +4,5 @@ pub mod Changes
 pub mod Wanted
 pub mod State
 pub mod Nests
+pub mod Accepted
 pub mod Parsed

@@ -1,38 +1,62 @@
--- What a text is parsed to: its script, or its refusal.
--- ECMA-262, ECMAScript Language: Scripts; docs/SCRIPTS.md, "The grammar of scripts" and "Refusals of the grammar".
-use Rattle.std.specs.Prelude.{◌≡◌, ℕ, ◌-◌, List, [], ◌∷◌, length, ◌⊎◌}
+-- What a text is parsed to: its tree, or the refusal at its first bad token.
+-- ECMA-262, ECMAScript Language: Scripts; docs/SCRIPTS.md, "The grammar of scripts", "Literals and arguments" and "Refusals of the grammar".
+use Rattle.std.specs.Prelude.{◌≡◌, ℕ, List, length, ◌⊎◌}
 use Rattle.ivm_text.specs.declared.refusal.Refusal.{Refusal}
 use Rattle.js_syntax.specs.declared.node.Node.{Node}
-use Rattle.js_syntax.specs.Tree.{Trees, nothing}
+use Rattle.js_syntax.specs.Tree.{Trees, IsTreeOf}
 use Rattle.js_lexer.specs.declared.token.Token.{Token}
 use Rattle.js_lexer.specs.declared.token.SyntaxFault.{SyntaxFault}
 use Rattle.js_lexer.specs.declared.token.SyntaxFault.TheVariants as faults
 use Rattle.js_lexer.specs.Tokens.{AreTokens, IsRefusal}
-use Rattle.js_grammar.specs.Grammar.{answer, accepted, rejected}
-use Rattle.js_parser.specs.View.{grown, trees_then}
+use Rattle.js_grammar.specs.declared.form.Why.{Why}
+use Rattle.js_grammar.specs.Grammar.{limit, refusal_at}
+use Rattle.js_derivation.specs.Derives.{Derives, DerivesLiteral, DerivesArguments}
+use Rattle.js_derivation.specs.Exactly.{Derivation}
+use Rattle.js_derivation.specs.FirstBad.{IsFirstBad}
+use Rattle.js_parser.specs.View.{tree_of}
 
--- the tree under the root of a script, which is its last node
-abbrev pub tree_of : List Node → Trees
-tree_of nodes = trees_then (grown [] nodes) ((length nodes - 1) ∷ []) nothing
-
--- the bytes are a text of tokens of which the grammar accepts this script's tree
-pub record IsScriptOf (bytes : List ℕ) (script : List Node) : Type 0 where
+-- the bytes are a text of tokens that have this tree
+pub record HasTree (Derived : Derivation) (bytes : List ℕ) (tree : Trees) : Type 0 where
   pub tokens : List Token
   pub are_its_tokens : AreTokens bytes tokens
-  pub is_their_tree : answer (length bytes) tokens ≡ accepted (tree_of script)
+  pub derives : Derived limit tokens tree
 
--- the grammar refuses the tokens so, in a text of so many bytes
-abbrev pub IsRejected : ℕ → List Token → SyntaxFault → Type 0
-IsRejected end tokens (faults.Refused r) = answer end tokens ≡ rejected r
-IsRejected end tokens faults.NoMemory = Unit {0}
+-- and the tree under the root of these nodes is that one
+pub record IsTextOf (Derived : Derivation) (bytes : List ℕ) (nodes : List Node) : Type 0 where
+  pub tree : Trees
+  pub is_its_tree : IsTreeOf nodes tree
+  pub has : HasTree Derived bytes tree
 
--- the bytes are a text of tokens that the grammar refuses so
-pub record IsRejectedText (bytes : List ℕ) (r : Refusal) : Type 0 where
+-- the bytes are a text of tokens that have no tree, and the refusal is that of the first bad one
+pub record IsRefusedText (Derived : Derivation) (bytes : List ℕ) (r : Refusal) : Type 0 where
   pub tokens : List Token
   pub are_its_tokens : AreTokens bytes tokens
-  pub is_their_refusal : answer (length bytes) tokens ≡ rejected r
+  pub why : Why
+  pub left : List Token
+  pub is_first_bad : IsFirstBad Derived limit tokens why left
+  pub is_its_refusal : r ≡ refusal_at (length bytes) why left
 
--- the bytes are no text of tokens, or one that the grammar refuses
+-- the bytes are no text of tokens, or their tokens have no tree
+abbrev pub IsFaultOf : Derivation → List ℕ → SyntaxFault → Type 0
+IsFaultOf Derived bytes (faults.Refused r) = IsRefusal bytes r ⊎ IsRefusedText Derived bytes r
+IsFaultOf Derived bytes faults.NoMemory = Unit {0}
+
+-- ---- scripts, literals, arguments
+
+abbrev pub IsScriptOf : List ℕ → List Node → Type 0
+IsScriptOf bytes nodes = IsTextOf Derives bytes nodes
+
+abbrev pub IsLiteralOf : List ℕ → List Node → Type 0
+IsLiteralOf bytes nodes = HasTree DerivesLiteral bytes (tree_of nodes)
+
+abbrev pub AreArgumentsOf : List ℕ → List Node → Type 0
+AreArgumentsOf bytes nodes = HasTree DerivesArguments bytes (tree_of nodes)
+
 abbrev pub IsFault : List ℕ → SyntaxFault → Type 0
-IsFault bytes (faults.Refused r) = IsRefusal bytes r ⊎ IsRejectedText bytes r
-IsFault bytes faults.NoMemory = Unit {0}
+IsFault bytes fault = IsFaultOf Derives bytes fault
+
+abbrev pub IsLiteralFault : List ℕ → SyntaxFault → Type 0
+IsLiteralFault bytes fault = IsFaultOf DerivesLiteral bytes fault
+
+abbrev pub IsArgumentsFault : List ℕ → SyntaxFault → Type 0
+IsArgumentsFault bytes fault = IsFaultOf DerivesArguments bytes fault

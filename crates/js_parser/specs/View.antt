@@ -1,6 +1,6 @@
 -- The work that a builder holds: the trees of its nodes, and its open forms as frames.
 -- This project's own; docs/SCRIPTS.md, "Nodes and places".
-use Rattle.std.specs.Prelude.{ℕ, Bool, true, ◌&&◌, List, [], ◌∷◌, ◌++◌, length, slice_index_or, nat_lt}
+use Rattle.std.specs.Prelude.{ℕ, ◌-◌, Bool, true, ◌&&◌, List, [], ◌∷◌, ◌++◌, length, slice_index_or, nat_lt}
 use Rattle.std.specs.List.{list_all}
 use Rattle.js_syntax.specs.declared.node.Node.{Node}
 use Rattle.js_syntax.specs.declared.kind.Kind.TheVariants as kinds
@@ -34,6 +34,10 @@ root_of made node = record { head = syntax.head_of (length made) node; kids = tr
 unfoldable pub grown : List Root → List Node → List Root
 grown made [] = made
 grown made (n ∷ ns) = grown (made ++ root_of made n ∷ []) ns
+
+-- the tree under the root, which is the last node
+abbrev pub tree_of : List Node → Trees
+tree_of nodes = trees_then (grown [] nodes) ((length nodes - 1) ∷ []) nothing
 
 -- ---- open forms
 

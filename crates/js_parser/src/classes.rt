@@ -4,6 +4,7 @@ ghost use Rattle.std.specs.Prelude.{◌≡◌, List, map};
 ghost use Rattle.std.specs.List.{list_any};
 ghost use Rattle.std.specs.Str.{bytes_eq};
 ghost use Rattle.js_grammar.specs.Classes.{class_of, class_in, is_among, is_word_token, is_punct_token, begins_construction, word_class, token_class, words, foreign_words, constructors, punctuators, code, is_one_of};
+ghost use Rattle.js_grammar.specs.Rules.{passing_words};
 ghost use Rattle.js_parser.specs.Tables.{entries};
 
 use ivm_text::Units;
@@ -74,6 +75,8 @@ const CONSTRUCTORS: [&[u8]; 8] = [
     b"Reference",
     b"ExternalCopy",
 ];
+
+const PASSING_WORDS: [&[u8]; 5] = [b"ref", b"deref", b"copy", b"into", b"callback"];
 
 const PUNCTUATORS: [(&[u8], Class); 35] = [
     (b"{", Class::BraceOpen),
@@ -188,6 +191,14 @@ fn is_constructor(word: &Units) -> bool
     is_one_of(word, &CONSTRUCTORS)
 }
 
+/// Whether the word says what an argument passes.
+#[tactic(auto, unfolding(js_grammar::specs::Rules::passing_words))]
+pub(crate) fn is_passing_word(word: &Units) -> bool
+    ensures { result ≡ is_among passing_words word.now }
+{
+    is_one_of(word, &PASSING_WORDS)
+}
+
 fn is_one_of(word: &Units, words: &[&[u8]]) -> bool
     ensures { result ≡ list_any (λ w. bytes_eq w.now word.now) words.now }
 {
@@ -224,8 +235,8 @@ fn class_in(table: &[(&[u8], Class)], text: &Units, other: Class) -> Class
     other
 }
 
-/// Whether the text consists of these bytes.
-fn spells(text: &Units, bytes: &[u8]) -> bool
+/// Whether a word consists of these bytes, each as one code unit.
+pub fn spells(text: &Units, bytes: &[u8]) -> bool
     ensures { result ≡ bytes_eq bytes.now text.now }
 {
     if text.len() != bytes.len() {

@@ -1,8 +1,8 @@
-//! Scripts from their bytes: a tree exactly where the grammar has one, and else the first bad token.
+//! Scripts, literals and arguments from their bytes: a tree exactly where the grammar has one, and else the first bad token.
 //!
 //! Contracts see bytes and tokens as lists, and a script as the tree under its root.
-//! Rely on: `parse` answers what the grammar of `js_grammar` says, save for want of memory.
-//! Over `js_grammar`, `js_lexer` and `js_syntax`; under `js_early` and `isolate_core`.
+//! Rely on: `parse` and its kin answer what the grammar of `js_grammar` says, save for want of memory.
+//! Over `js_grammar`, `js_lexer` and `js_syntax`; under `js_literals`, `js_early` and `isolate_core`.
 //! Begin with `specs/View.antt`, then `src/reader.rt` and `src/statements.rt`.
 #![tactic(auto)]
 
@@ -15,6 +15,7 @@ mod functions;
 mod grammar;
 mod limit;
 mod lists;
+mod literals;
 mod operands;
 mod operators;
 mod reader;
@@ -23,5 +24,6 @@ mod shape;
 mod stacks;
 mod statements;
 
+pub use classes::spells;
 pub use js_lexer::SyntaxFault;
-pub use scripts::parse;
+pub use scripts::{parse, parse_arguments, parse_literal};

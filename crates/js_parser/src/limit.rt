@@ -111,6 +111,18 @@ const ITEM: [Class; 31] = [
     Class::MinusMinus,
 ];
 
+const LITERAL: [Class; 9] = [
+    Class::Num,
+    Class::Text,
+    Class::Undefined,
+    Class::Null,
+    Class::True,
+    Class::False,
+    Class::Minus,
+    Class::BracketOpen,
+    Class::BraceOpen,
+];
+
 /// What begins the form is too deep, and all else cannot stand here.
 pub(crate) fn stop_beyond(reader: &mut Reader<'_>, form: Form)
     ensures { state_of reader.new ≡ beyond form (state_of reader.old) }
@@ -141,6 +153,7 @@ fn may_begin(form: Form, class: Class) -> bool
         Form::Statement => is_among(class, &STATEMENT),
         Form::Item => is_among(class, &ITEM),
         Form::Block => is_among(class, &[Class::BraceOpen]),
+        Form::Literal => is_among(class, &LITERAL),
     }
 }
 

@@ -28,7 +28,7 @@ impl<F: Fn(&mut Reader<'_>, u32, Form) -> Result<(), NoMemory>> Grammar<F> {
 
     /// The word `undefined`.
     #[tactic(auto, unfolding(js_grammar::specs::Expressions::leaf))]
-    fn leaf_undefined(&self, reader: &mut Reader<'_>) -> Result<(), NoMemory>
+    pub fn leaf_undefined(&self, reader: &mut Reader<'_>) -> Result<(), NoMemory>
         requires { Nests self.now.levels (F.pre self.now.inside) (F.post self.now.inside) }
         ensures { Runs self.now.levels (leaf kinds.Undefined classes.Undefined) result reader.old reader.new }
     {
@@ -39,7 +39,7 @@ impl<F: Fn(&mut Reader<'_>, u32, Form) -> Result<(), NoMemory>> Grammar<F> {
 
     /// The word `null`.
     #[tactic(auto, unfolding(js_grammar::specs::Expressions::leaf))]
-    fn leaf_null(&self, reader: &mut Reader<'_>) -> Result<(), NoMemory>
+    pub fn leaf_null(&self, reader: &mut Reader<'_>) -> Result<(), NoMemory>
         requires { Nests self.now.levels (F.pre self.now.inside) (F.post self.now.inside) }
         ensures { Runs self.now.levels (leaf kinds.Null classes.Null) result reader.old reader.new }
     {
@@ -50,7 +50,7 @@ impl<F: Fn(&mut Reader<'_>, u32, Form) -> Result<(), NoMemory>> Grammar<F> {
 
     /// The word `true`.
     #[tactic(auto, unfolding(js_grammar::specs::Expressions::leaf))]
-    fn leaf_true(&self, reader: &mut Reader<'_>) -> Result<(), NoMemory>
+    pub fn leaf_true(&self, reader: &mut Reader<'_>) -> Result<(), NoMemory>
         requires { Nests self.now.levels (F.pre self.now.inside) (F.post self.now.inside) }
         ensures { Runs self.now.levels (leaf kinds.True classes.True) result reader.old reader.new }
     {
@@ -61,7 +61,7 @@ impl<F: Fn(&mut Reader<'_>, u32, Form) -> Result<(), NoMemory>> Grammar<F> {
 
     /// The word `false`.
     #[tactic(auto, unfolding(js_grammar::specs::Expressions::leaf))]
-    fn leaf_false(&self, reader: &mut Reader<'_>) -> Result<(), NoMemory>
+    pub fn leaf_false(&self, reader: &mut Reader<'_>) -> Result<(), NoMemory>
         requires { Nests self.now.levels (F.pre self.now.inside) (F.post self.now.inside) }
         ensures { Runs self.now.levels (leaf kinds.False classes.False) result reader.old reader.new }
     {

@@ -5,7 +5,7 @@ ghost use Rattle.js_grammar.specs.Classes.{class_of};
 ghost use Rattle.js_grammar.specs.Rules.{is_names, is_parameters, prefix_kind, operator_kind};
 
 use crate::builder::Builder;
-use crate::classes::{class_of, is_among};
+use crate::classes::{class_of, is_among, is_passing_word};
 use ivm_text::NoMemory;
 use js_grammar::{Class, Cover, Why};
 use js_lexer::{Token, TokenKind};
@@ -30,7 +30,7 @@ impl Reader<'_> {
     ghost use Rattle.std.specs.Prelude.{◌≡◌, ◌∷◌, [], true, ◌&&◌, not, None};
     ghost use Rattle.js_grammar.specs.Rules.{after};
     ghost use Rattle.js_grammar.specs.Work.{place_of};
-    ghost use Rattle.js_grammar.specs.Rules.{Test, passes, passes_on, is_line, ends_statement, kind_passes, is_word_kind, is_key_kind, is_names, is_parameters, refused, sees, sees_other, sees_on_line, sees_word, sees_key, after_line, may_end, may_be_parameters, must_be_parameters, open_form, open_prefix, precede, precede_operator, close, pair, unwrap, name_it, declare, key, value, shorthand, offer, parameters_only, clear, omit, prefix_kind, operator_kind};
+    ghost use Rattle.js_grammar.specs.Rules.{Test, passes, passes_on, is_line, ends_statement, kind_passes, is_word_kind, is_key_kind, is_nonzero, is_passing, is_names, is_parameters, refused, sees, sees_other, sees_on_line, sees_word, sees_key, sees_nonzero, sees_passing, after_line, may_end, may_be_parameters, must_be_parameters, open_form, open_prefix, precede, precede_operator, close, pair, unwrap, name_it, declare, key, value, shorthand, offer, parameters_only, clear, omit, prefix_kind, operator_kind};
     ghost use Rattle.js_parser.specs.State.{state_of, rest_of, Acts, Takes};
 
     // ---- what is in view
@@ -91,6 +91,26 @@ impl Reader<'_> {
     {
         match self.refused {
             None => self.is_key(),
+            Some(_) => false,
+        }
+    }
+
+    /// Whether the token in view is a number, and not 0.
+    pub fn sees_nonzero(&self) -> bool
+        ensures { result ≡ passes (sees_nonzero) (state_of self.now) }
+    {
+        match self.refused {
+            None => self.is_nonzero(),
+            Some(_) => false,
+        }
+    }
+
+    /// Whether the token in view is a word that says what an argument passes.
+    pub fn sees_passing(&self) -> bool
+        ensures { result ≡ passes (sees_passing) (state_of self.now) }
+    {
+        match self.refused {
+            None => self.is_passing(),
             Some(_) => false,
         }
     }
@@ -168,6 +188,30 @@ impl Reader<'_> {
         }
     }
 
+    fn is_nonzero(&self) -> bool
+        ensures { result ≡ is_nonzero (rest_of self.now) }
+    {
+        match behind(self.tokens, self.at) {
+            [token, ..] => match token.kind {
+                TokenKind::Num => token.number != 0,
+                _ => false,
+            },
+            [] => false,
+        }
+    }
+
+    fn is_passing(&self) -> bool
+        ensures { result ≡ is_passing (rest_of self.now) }
+    {
+        match behind(self.tokens, self.at) {
+            [token, ..] => match token.kind {
+                TokenKind::Word => is_passing_word(&token.text),
+                _ => false,
+            },
+            [] => false,
+        }
+    }
+
     /// The byte at which the token in view stands.
     fn place(&self) -> u32
         ensures { result ≡ place_of (rest_of self.now) }
@@ -240,6 +284,22 @@ impl Reader<'_> {
         ensures { Takes (sees_key) self.old self.new }
     {
         let passed = self.sees_key();
+        self.take_where(passed);
+    }
+
+    /// Takes the token in view, which has to be a number, and not 0.
+    pub fn take_nonzero(&mut self)
+        ensures { Takes (sees_nonzero) self.old self.new }
+    {
+        let passed = self.sees_nonzero();
+        self.take_where(passed);
+    }
+
+    /// Takes the token in view, which has to be a word that says what an argument passes.
+    pub fn take_passing(&mut self)
+        ensures { Takes (sees_passing) self.old self.new }
+    {
+        let passed = self.sees_passing();
         self.take_where(passed);
     }
 

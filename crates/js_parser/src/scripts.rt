@@ -1,11 +1,13 @@
-//! Scripts from their bytes.
+//! Scripts, literals and arguments from their bytes.
 
 ghost use Rattle.std.specs.Prelude.{◌≡◌, ◌<◌, ◌^◌, List, length, IfOk, IfErr};
+ghost use Rattle.js_syntax.specs.Tree.{IsTreeOf};
 ghost use Rattle.js_lexer.specs.declared.token.Token.{Token};
-ghost use Rattle.js_grammar.specs.Statements as rules;
-ghost use Rattle.js_grammar.specs.Grammar.{within, at_start, answer, accepted, limit, tree_of_parts};
+ghost use Rattle.js_grammar.specs.Grammar.{within, at_start, answer_by, accepted, limit, tree_of_parts};
 ghost use Rattle.js_parser.specs.State.{state_of, Runs};
-ghost use Rattle.js_parser.specs.Parsed.{IsScriptOf, IsFault, IsRejected, tree_of};
+ghost use Rattle.js_parser.specs.Accepted.{IsAccepted, IsFaultBy, IsRejected, rule_for};
+ghost use Rattle.js_parser.specs.View.{tree_of};
+ghost use Rattle.js_parser.specs.Parsed.{IsScriptOf, IsLiteralOf, AreArgumentsOf, IsFault, IsLiteralFault, IsArgumentsFault};
 ghost use Rattle.js_parser.specs.Changes.{work_in};
 
 use crate::builder::Builder;
@@ -21,8 +23,17 @@ use js_lexer::{SyntaxFault, Token, lex};
 use js_syntax::{Kind, Script};
 use std::alloc::Global;
 
-/// How many statements, expressions and operators before an operand may be open at a token.
+/// How many statements, expressions and operators before an operand may be open at a token; and in texts of literals, how
+/// many literals.
 const LEVELS: u32 = 200;
+
+/// What a text is read as.
+#[derive(Clone, Copy, Drop)]
+enum Whole {
+    Script,
+    Literal,
+    Arguments,
+}
 
 /// The script of a text of fewer than 2^32 bytes.
 ///
@@ -36,18 +47,61 @@ pub fn parse(alloc: Global, text: &[u8]) -> Result<Script, SyntaxFault>
     ensures ok { IfOk result (IsScriptOf text.now) }
     ensures err { IfErr result (IsFault text.now) }
 {
+    parse_whole(alloc, text, Whole::Script)
+}
+
+/// The nodes of a text of one literal, of fewer than 2^32 bytes: a root, whose one kid is the literal.
+///
+/// The text is refused as `parse` refuses it, by the grammar of literals.
+pub fn parse_literal(alloc: Global, text: &[u8]) -> Result<Script, SyntaxFault>
+    requires { length text.now < 2 ^ 32 }
+
+    ensures ok { IfOk result (IsLiteralOf text.now) }
+    ensures tree { IfOk result (λ nodes. IsTreeOf nodes (tree_of nodes)) }
+    ensures err { IfErr result (IsLiteralFault text.now) }
+{
+    parse_whole(alloc, text, Whole::Literal)
+}
+
+/// The nodes of a text of arguments, maybe none, of fewer than 2^32 bytes: a root, whose kids are literals and calls as
+/// `ref(x)`.
+///
+/// The text is refused as `parse` refuses it, by the grammar of arguments.
+pub fn parse_arguments(alloc: Global, text: &[u8]) -> Result<Script, SyntaxFault>
+    requires { length text.now < 2 ^ 32 }
+
+    ensures ok { IfOk result (AreArgumentsOf text.now) }
+    ensures tree { IfOk result (λ nodes. IsTreeOf nodes (tree_of nodes)) }
+    ensures err { IfErr result (IsArgumentsFault text.now) }
+{
+    parse_whole(alloc, text, Whole::Arguments)
+}
+
+fn parse_whole(alloc: Global, text: &[u8], whole: Whole) -> Result<Script, SyntaxFault>
+    requires { length text.now < 2 ^ 32 }
+
+    ensures ok { IfOk result (λ script. IsAccepted (rule_for whole) text.now (tree_of script)) }
+    ensures tree { IfOk result (λ script. IsTreeOf script (tree_of script)) }
+    ensures err { IfErr result (IsFaultBy (rule_for whole) text.now) }
+{
     match lex(alloc, text) {
-        Ok(tokens) => parse_tokens(alloc, tokens.as_slice(), text.len() as u32),
+        Ok(tokens) => parse_tokens(alloc, tokens.as_slice(), text.len() as u32, whole),
         Err(fault) => Err(fault),
     }
 }
 
-fn parse_tokens(alloc: Global, tokens: &[Token], end: u32) -> Result<Script, SyntaxFault>
-    ensures ok { IfOk result (λ script. answer end tokens.now ≡ accepted (tree_of script)) }
-    ensures err { IfErr result (IsRejected end tokens.now) }
+fn parse_tokens(
+    alloc: Global,
+    tokens: &[Token],
+    end: u32,
+    whole: Whole,
+) -> Result<Script, SyntaxFault>
+    ensures ok { IfOk result (λ script. answer_by (rule_for whole) end tokens.now ≡ accepted (tree_of script)) }
+    ensures tree { IfOk result (λ script. IsTreeOf script (tree_of script)) }
+    ensures err { IfErr result (IsRejected (rule_for whole) end tokens.now) }
 {
     let mut reader = start(alloc, tokens)?;
-    script(&mut reader)?;
+    read_whole(&mut reader, whole)?;
     match reader.refused {
         Some(why) => {
             let refused = refusal(alloc, &reader, why, end)?;
@@ -57,7 +111,7 @@ fn parse_tokens(alloc: Global, tokens: &[Token], end: u32) -> Result<Script, Syn
     }
 }
 
-/// Nothing is read, and the script is the innermost form.
+/// Nothing is read, and the root is the innermost form.
 fn start(alloc: Global, tokens: &[Token]) -> Result<Reader<'_>, NoMemory>
     ensures { IfOk result (λ reader. state_of reader ≡ at_start tokens.now) }
 {
@@ -81,14 +135,19 @@ fn start(alloc: Global, tokens: &[Token]) -> Result<Reader<'_>, NoMemory>
     })
 }
 
-fn script(reader: &mut Reader<'_>) -> Result<(), NoMemory>
-    ensures { Runs limit rules.script result reader.old reader.new }
+/// Reads a whole text.
+fn read_whole(reader: &mut Reader<'_>, whole: Whole) -> Result<(), NoMemory>
+    ensures { Runs limit (rule_for whole) result reader.old reader.new }
 {
-    Grammar {
+    let grammar = Grammar {
         levels: LEVELS,
         inside: read,
+    };
+    match whole {
+        Whole::Script => grammar.script(reader),
+        Whole::Literal => grammar.literal_text(reader),
+        Whole::Arguments => grammar.arguments_text(reader),
     }
-    .script(reader)
 }
 
 /// Reads a form where so many levels are left.
@@ -112,6 +171,7 @@ fn read(reader: &mut Reader<'_>, levels: u32, form: Form) -> Result<(), NoMemory
                 Form::Statement => grammar.statement(reader),
                 Form::Item => grammar.item(reader),
                 Form::Block => grammar.block(reader),
+                Form::Literal => grammar.literal(reader),
             }
         }
     }
@@ -120,6 +180,7 @@ fn read(reader: &mut Reader<'_>, levels: u32, form: Form) -> Result<(), NoMemory
 /// The script whose root is the last part of the innermost form. That this part is no other node than the last is tested.
 fn finished(builder: Builder) -> Result<Script, SyntaxFault>
     ensures ok { IfOk result (λ script. (rest : List Token) → tree_of_parts (work_in rest builder).top.parts ≡ tree_of script) }
+    ensures tree { IfOk result (λ script. IsTreeOf script (tree_of script)) }
     ensures err { IfErr result (λ fault. fault ≡ SyntaxFault.NoMemory) }
 {
     let last = builder.last_piece();

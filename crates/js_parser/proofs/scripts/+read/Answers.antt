@@ -38,3 +38,8 @@ pub returns-in-Block : goal.returns-in-Block
 returns-in-Block t c = ok_map c.block.result
     (λ _ e. e ∙ sym (ap (λ (f : Form). within c.args.levels f (state_of c.args.reader.now)) c.in-Block.is ∙ within_one c.args.levels forms.Block (state_of c.args.reader.now) (omega arith)))
     c.block.ensures
+
+pub returns-in-Literal : goal.returns-in-Literal
+returns-in-Literal t c = ok_map c.literal.result
+    (λ _ e. e ∙ sym (ap (λ (f : Form). within c.args.levels f (state_of c.args.reader.now)) c.in-Literal.is ∙ within_one c.args.levels forms.Literal (state_of c.args.reader.now) (omega arith)))
+    c.literal.ensures

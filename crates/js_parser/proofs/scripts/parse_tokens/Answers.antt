@@ -1,18 +1,19 @@
 use Rattle.js_parser.specs.State.{state_of, rest_of}
-use Rattle.js_parser.specs.Parsed.{tree_of}
+use Rattle.js_parser.specs.Accepted.{rule_for}
+use Rattle.js_parser.specs.View.{tree_of}
 use Rattle.js_parser.proofs.Works.{ok_map}
 use Rattle.js_parser.proofs.Endings as endings
 use Rattle.js_parser.proofs.scripts.parse_tokens.Goals as goal
 
 pub returns-in_ok-refused-in-Some-clause-err : goal.returns-in_ok-refused-in-Some-clause-err
 returns-in_ok-refused-in-Some-clause-err c =
-    endings.rejected_as c.args.end c.args.tokens.now c.script.new.reader c.in-Some.why c.in_ok-refused-in-Some.refused
-    (endings.read_whole c.args.tokens.now (state_of c.in_ok-reader.reader) (state_of c.script.new.reader) c.in_ok-reader.ensures c.in_ok-script.ensures)
+    endings.rejected_as (rule_for c.args.whole) c.args.end c.args.tokens.now c.read_whole.new.reader c.in-Some.why c.in_ok-refused-in-Some.refused
+    (endings.read_whole (rule_for c.args.whole) c.args.tokens.now (state_of c.in_ok-reader.reader) (state_of c.read_whole.new.reader) c.in_ok-reader.ensures c.in_ok-read_whole.ensures)
     c.in-Some.is c.in_ok-refused-in-Some.ensures
 
 pub returns-in-None-clause-ok : goal.returns-in-None-clause-ok
 returns-in-None-clause-ok c = ok_map c.finished.result
-    (λ s e. endings.accepted_as c.args.end c.args.tokens.now c.script.new.reader (tree_of s)
-    (endings.read_whole c.args.tokens.now (state_of c.in_ok-reader.reader) (state_of c.script.new.reader) c.in_ok-reader.ensures c.in_ok-script.ensures)
-    c.in-None.is (e (rest_of c.script.new.reader)))
+    (λ s e. endings.accepted_as (rule_for c.args.whole) c.args.end c.args.tokens.now c.read_whole.new.reader (tree_of s)
+    (endings.read_whole (rule_for c.args.whole) c.args.tokens.now (state_of c.in_ok-reader.reader) (state_of c.read_whole.new.reader) c.in_ok-reader.ensures c.in_ok-read_whole.ensures)
+    c.in-None.is (e (rest_of c.read_whole.new.reader)))
     c.finished.ensures.ok

@@ -1,0 +1,13 @@
+use Rattle.std.proofs.Common.{◌≡◌, [], ◌∷◌}
+use Rattle.js_grammar.specs.declared.class.Class.TheVariants as classes
+use Rattle.js_grammar.specs.Rules.{left, sees_other}
+use Rattle.js_grammar.specs.Literals.{literal_property}
+use Rattle.js_grammar.proofs.Takes.{looped}
+use Rattle.js_parser.specs.State.{state_of}
+use Rattle.js_parser.proofs.grammar.Grammar.literal_property_list.Given as goal
+
+abbrev pub invariant-loop-reader : goal.invariant-loop-reader
+invariant-loop-reader g l = looped l.self.levels (sees_other (classes.BraceClose ∷ [])) literal_property (state_of l.reader) ≡ looped l.self.levels (sees_other (classes.BraceClose ∷ [])) literal_property (state_of l.fn.reader)
+
+abbrev pub decreases-loop-reader : goal.decreases-loop-reader
+decreases-loop-reader g l = left (state_of l.reader)

@@ -1,0 +1,21 @@
+use Rattle.std.proofs.Common.{[], ◌∷◌, refl, sym}
+use Rattle.js_grammar.specs.declared.class.Class.TheVariants as classes
+use Rattle.js_grammar.specs.Rules.{sees_other}
+use Rattle.js_grammar.specs.Literals.{argument, passing, passing_word, passed_name}
+use Rattle.js_grammar.proofs.Takes.{loop_go, loop_less, loop_end}
+use Rattle.js_parser.specs.State.{state_of}
+use Rattle.js_parser.proofs.grammar.Grammar.passed_arguments.Goals as goal
+
+pub loop-reader-init : goal.loop-reader-init
+loop-reader-init g c = refl
+
+pub loop-reader-preserved : goal.loop-reader-preserved
+unfolding argument passing passing_word passed_name
+loop-reader-preserved g c = loop_go c.args.self.now.levels (sees_other (classes.End ∷ [])) argument (state_of c.loop-reader.reader) _ _ refl (sym c.loop-reader-test.ensures) c.in_ok-passed_argument.ensures c.loop-reader.invariant
+
+pub loop-reader-smaller : goal.loop-reader-smaller
+unfolding argument passing passing_word passed_name
+loop-reader-smaller g c = loop_less c.args.self.now.levels (sees_other (classes.End ∷ [])) argument (state_of c.loop-reader.reader) _ refl (sym c.loop-reader-test.ensures) c.in_ok-passed_argument.ensures
+
+pub returns : goal.returns
+returns g c = loop_end c.args.self.now.levels (sees_other (classes.End ∷ [])) argument (state_of c.loop-reader.reader) _ (sym c.loop-reader-test.ensures) c.loop-reader.invariant

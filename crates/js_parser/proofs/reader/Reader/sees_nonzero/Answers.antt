@@ -1,0 +1,10 @@
+use Rattle.std.proofs.Common.{◌∙◌}
+use Rattle.js_grammar.specs.Rules as rules
+use Rattle.js_parser.proofs.Steps as steps
+use Rattle.js_parser.proofs.reader.Reader.sees_nonzero.Goals as goal
+
+pub returns-in-None : goal.returns-in-None
+returns-in-None c = c.is_nonzero.ensures ∙ steps.passes_here c.args.self.now rules.sees_nonzero c.in-None.is
+
+pub returns-in-Some : goal.returns-in-Some
+returns-in-Some c = steps.passes_not c.args.self.now rules.sees_nonzero _ c.in-Some.is
