@@ -1,7 +1,5 @@
-pub mod Keys
 pub mod Price
 pub mod Store
 pub mod Room
 pub mod Growth
 pub mod Closed
-pub mod KeyOrder

@@ -2,7 +2,7 @@
 ghost use Rattle.std.specs.Prelude.{◌≡◌, ◌<◌, [], ◌++◌, ◌∷◌, length, slice_get, Some, IfOk, OnOk, OnErr, IsOk, IsSome, is_some, false};
 ghost use Rattle.std.specs.Map.{keys_of};
 ghost use Rattle.std.specs.List.{list_any};
-ghost use Rattle.charged_heap.specs.Keys.{is_key, value_at, with_value, HasDistinctKeys};
+ghost use Rattle.key_order.specs.Keys.{is_key, value_at, with_value, HasDistinctKeys};
 
 use crate::Value;
 use indexmap::IndexMap;
@@ -22,7 +22,7 @@ pub struct Props {
 impl Model for Props {
     ghost use Rattle.std.specs.Prelude.{List, ℕ};
     ghost use Rattle.charged_heap.specs.declared.values.Value as script;
-    ghost use Rattle.charged_heap.specs.Keys.{HasDistinctKeys};
+    ghost use Rattle.key_order.specs.Keys.{HasDistinctKeys};
 
     ghost Value = { List (List ℕ × script.Value) };
 
@@ -71,8 +71,15 @@ impl Props {
         (key, *value)
     }
 
+    /// The keys and values, as a map.
+    pub(crate) fn entries(&self) -> &IndexMap<Units, Value>
+        ensures { result.now.entries ≡ self.now }
+    {
+        &self.map
+    }
+
     /// Adds a property whose key isn't there yet, behind all others.
-    #[tactic(auto, using(crate::proofs::KeyLemmas::with_value_new))]
+    #[tactic(auto, using(key_order::proofs::KeyLemmas::with_value_new))]
     pub fn add(&mut self, key: Units, value: Value) -> Result<(), AllocError>
         requires { list_any (is_key key) (keys_of self.old) ≡ false }
         ensures ok { OnOk result (self.new ≡ self.old ++ (key, value) ∷ []) }

@@ -1,8 +1,8 @@
 use Rattle.std.proofs.Common.{arith, ◌∙◌, ap, ◌≡◌, ◌<◌, length, get_or}
 use Rattle.std.specs.Fmt.{decimal}
-use Rattle.charged_heap.proofs.IndexLemmas.{nonempty, no_zero, all_digits, reads_back, decimal_reads}
-use Rattle.charged_heap.proofs.order.decimal_index.Goals as goal
-use Rattle.charged_heap.proofs.order.decimal_index.Goals.{else-unit_at-eq48-via-then-unit_at-eq48+else-len-gt1, else-unit_at-eq48-via-else-unit_at-eq48}
+use Rattle.key_order.proofs.IndexLemmas.{nonempty, no_zero, all_digits, reads_back, decimal_reads}
+use Rattle.key_order.proofs.order.decimal_index.Goals as goal
+use Rattle.key_order.proofs.order.decimal_index.Goals.{else-unit_at-eq48-via-then-unit_at-eq48+else-len-gt1, else-unit_at-eq48-via-else-unit_at-eq48}
 
 pub returns-then-len-eq0-clause-none : goal.returns-then-len-eq0-clause-none
 returns-then-len-eq0-clause-none c = λ n small e. let some = nonempty n c.args.key.now small e in omega arith

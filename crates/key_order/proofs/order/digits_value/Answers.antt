@@ -1,6 +1,6 @@
 use Rattle.std.proofs.Common.{arith, ◌+◌, ◌*◌, ◌-◌, ◌<◌, length, get_or, drop}
-use Rattle.charged_heap.proofs.IndexLemmas.{read_on_ge, read_step}
-use Rattle.charged_heap.proofs.order.digits_value.Goals as goal
+use Rattle.key_order.proofs.IndexLemmas.{read_on_ge, read_step}
+use Rattle.key_order.proofs.order.digits_value.Goals as goal
 
 pub returns-then-n-ge-INDEX_END-clause-none : goal.returns-then-n-ge-INDEX_END-clause-none
 returns-then-n-ge-INDEX_END-clause-none c =

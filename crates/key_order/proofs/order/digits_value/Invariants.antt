@@ -1,8 +1,8 @@
 use Rattle.std.proofs.Common.{◌≡◌, ◌<◌, drop}
 use Rattle.std.specs.Str.{all_ascii_digits}
-use Rattle.charged_heap.specs.KeyOrder.{read_on}
-use Rattle.charged_heap.specs.declared.order.TheConstants.{INDEX_END}
-use Rattle.charged_heap.proofs.order.digits_value.Given as goal
+use Rattle.key_order.specs.KeyOrder.{read_on}
+use Rattle.key_order.specs.declared.order.TheConstants.{INDEX_END}
+use Rattle.key_order.proofs.order.digits_value.Given as goal
 
 abbrev pub invariant-loop-place : goal.invariant-loop-place
 invariant-loop-place l =

@@ -7,7 +7,7 @@ use Rattle.std.specs.List.Sorted.{ties, IsPermutation, IsNonDecreasingBy, IsStab
 use Rattle.std.proofs.lemmas.List.Sorted.{IsPermutation-refl, IsPermutation-cons, IsPermutation-middle, IsPermutation-sym, IsPermutation-trans}
 use Rattle.std.proofs.lemmas.Bool.Decides.{leb_tells, nat_tests}
 use Rattle.std.proofs.lemmas.Bool.{cases_lt, cases_eq}
-use Rattle.charged_heap.specs.KeyOrder.{put_by, sorted_by}
+use Rattle.key_order.specs.KeyOrder.{put_by, sorted_by}
 
 -- sorted, by recursion
 abbrev pub Rises : {X : Type 0} → (X → ℕ) → List X → Type 0

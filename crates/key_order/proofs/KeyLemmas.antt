@@ -5,7 +5,7 @@ use Rattle.std.specs.Map.{keys_of}
 use Rattle.indexmap.specs.Layout.{set_value_at}
 use Rattle.indexmap.proofs.MapLemmas.{insert_entry-first, Found-position}
 use Rattle.std.specs.Prelude.{position}
-use Rattle.charged_heap.specs.Keys.{is_key, with_value}
+use Rattle.key_order.specs.Keys.{is_key, with_value}
 
 -- a new key goes last
 pub with_value_new : {V : Type 0} (pairs : List (List ℕ × V)) (key : List ℕ) (v : V)

@@ -7,9 +7,9 @@ use Rattle.std.proofs.lemmas.Fmt.{digits_decimal, digits_value-decimal, decimal-
 use Rattle.std.proofs.lemmas.Str.Parse.{IsNumeralModel, numerals_by_fold}
 use Rattle.std.specs.Fmt.{decimal}
 use Rattle.std.specs.Str.{all_ascii_digits}
-use Rattle.charged_heap.specs.Keys.{is_key}
-use Rattle.charged_heap.specs.KeyOrder.{read_on, index_of}
-use Rattle.charged_heap.specs.declared.order.TheConstants.{INDEX_END}
+use Rattle.key_order.specs.Keys.{is_key}
+use Rattle.key_order.specs.KeyOrder.{read_on, index_of}
+use Rattle.key_order.specs.declared.order.TheConstants.{INDEX_END}
 
 own : IsNumeralModel (λ ds. all_ascii_digits ds ≡ true) (read_on 0)
 own = numerals_by_fold _ (search rules) read_on (search rules)

@@ -1,14 +1,12 @@
 -- The order of an object's own keys.
 -- ECMA-262, OrdinaryOwnPropertyKeys and "array index"; docs/SCRIPTS.md, "Keys".
-use Rattle.std.specs.Prelude.{◌≡◌, ℕ, ◌+◌, ◌-◌, ◌*◌, List, [], ◌∷◌, ◌&&◌, Option, Some, None, nat_le, nat_lt, slice_index_or, if◌then◌else◌}
+use Rattle.std.specs.Prelude.{◌≡◌, ℕ, ◌+◌, ◌-◌, ◌*◌, List, [], ◌∷◌, ◌&&◌, Option, Some, None, nat_le, nat_lt, map, slice_get, if◌then◌else◌}
 use Rattle.std.specs.Fmt.{decimal}
 use Rattle.std.specs.List.Sorted.{IsPermutation, IsNonDecreasingBy, IsStableByKey}
 use Rattle.std.specs.Ordering.{nat_cmp}
-use Rattle.std.specs.Option.{unwrap_or}
-use Rattle.charged_heap.specs.Keys.{is_key}
-use Rattle.charged_heap.specs.declared.values.Value.{Value}
-use Rattle.charged_heap.specs.declared.values.Value.TheVariants as value
-use Rattle.charged_heap.specs.declared.order.TheConstants.{INDEX_END}
+use Rattle.std.specs.Option.{unwrap_or, option_map_or}
+use Rattle.key_order.specs.Keys.{is_key}
+use Rattle.key_order.specs.declared.order.TheConstants.{INDEX_END}
 
 -- ---- array indices
 
@@ -41,9 +39,13 @@ sorted_by n (x ∷ xs) = put_by n x (sorted_by n xs)
 abbrev pub key_order : {V : Type 0} → List (List ℕ × V) → List (List ℕ × V)
 key_order pairs = sorted_by (λ p. rank_of p.0) pairs
 
--- the property at a place, or one that stands for none
-abbrev pub pair_at : List (List ℕ × Value) → ℕ → List ℕ × Value
-pair_at pairs place = slice_index_or pairs place ([], value.Undefined)
+-- the pairs at these places are those in key order
+abbrev pub AreInOrder : {V : Type 0} → List (List ℕ × V) → List ℕ → Type 0
+AreInOrder pairs places = map (slice_get pairs) places ≡ map Some (key_order pairs)
+
+-- where the pair at a place stands; one that isn't there, behind all
+abbrev pub rank_at : {V : Type 0} → List (List ℕ × V) → ℕ → ℕ
+rank_at pairs place = option_map_or (λ p. rank_of p.0) (slice_get pairs place) INDEX_END
 
 -- ---- what is proved of it
 

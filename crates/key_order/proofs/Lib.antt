@@ -1,0 +1,4 @@
+pub mod KeyLemmas
+pub mod SortLemmas
+pub mod IndexLemmas
+pub mod KeyOrderLaws
