@@ -1,0 +1,10 @@
+pub mod Nodes
+pub mod Walks
+pub mod Firsts
+pub mod PairLemmas
+pub mod KindLemmas
+pub mod Weights
+pub mod Orders
+pub mod Texts
+pub mod OneOrder
+pub mod OneValue

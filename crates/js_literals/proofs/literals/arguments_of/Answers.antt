@@ -1,0 +1,10 @@
+use Rattle.js_literals.proofs.Texts.{each_goes, each_ends}
+use Rattle.js_literals.proofs.literals.arguments_of.Goals as goal
+
+pub loop-part-preserved : goal.loop-part-preserved
+loop-part-preserved c =
+    each_goes c.args.script.now c.args.parts.now c.loop-part.part-index 0 c.loop-part.told c.push.new.self c.in_ok-one.one c.loop-part-test.true c.in_ok-one.ensures c.in_ok-push.ensures.ok
+    c.loop-part.invariant
+
+pub returns : goal.returns
+returns c = each_ends c.args.script.now c.args.parts.now c.loop-part.part-index c.loop-part.told c.loop-part-test.false c.loop-part.invariant

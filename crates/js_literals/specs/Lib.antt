@@ -1,0 +1,4 @@
+pub mod Copies
+pub mod Told
+pub mod View
+pub mod One

@@ -1,0 +1,18 @@
+//! Literals and texts of arguments from their bytes, as plain copies.
+//!
+//! Contracts see bytes as lists, and a copy as its nodes and its root.
+//! Rely on: a copy is that of the literal's tree, and a refusal is that of the tokens or of the grammar.
+//! Over `js_parser`, `key_order` and `ivm_text`; under what reads a host script.
+//! Begin with `specs/Copies.antt`, then `src/copies.rt`.
+#![tactic(auto)]
+
+mod argument;
+mod copies;
+mod laws;
+mod literals;
+mod objects;
+
+pub use argument::{Argument, FormKind};
+pub use js_parser::SyntaxFault;
+pub use laws::one_value;
+pub use literals::{arguments, literal};
