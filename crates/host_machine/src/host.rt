@@ -153,7 +153,9 @@ impl Host {
         let Some(isolate) = self.isolate_asked(what) else {
             return Ok(Next::Pass);
         };
-        if self.calls.len() >= MOST_CALLS {
+        let drawn = self.calls.len();
+        let are_used_up = drawn >= MOST_CALLS;
+        if are_used_up {
             return Ok(Next::Pass);
         }
         if self.ledger.is_gone(isolate) {

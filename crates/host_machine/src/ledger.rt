@@ -104,10 +104,8 @@ impl Ledger {
         let tally = self.tally(isolate);
         let receipt = Event::Recv { isolate, out };
         let noted = tally.noting(&receipt);
-        let how = Settlement::Entry {
-            isolate,
-            place: tally.replies as u32,
-        };
+        let place = tally.replies as u32;
+        let how = Settlement::Entry { isolate, place };
         push_both(&mut self.events, receipt, Event::Settle { call, how })?;
         self.tallies.set(isolate, noted);
         Ok(())

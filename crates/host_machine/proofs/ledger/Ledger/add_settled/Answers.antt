@@ -13,8 +13,8 @@ noting-noted-requires-clause-replies c =
     one_more_fits c.tally-tally.result.replies c.args.self.now.events c.self.inside.events (omega (arith, replies_few c.args.isolate c.args.self.now.events, ap (λ tally. tally.replies) c.tally-tally.ensures))
     (sym (ap (λ ledger. ledger.events) c.self.view_is)) (omega (arith, c.len-few.ensures))
 
-pub overflow_cast-how : goal.overflow_cast-how
-overflow_cast-how c =
+pub overflow_cast-place : goal.overflow_cast-place
+overflow_cast-place c =
     let fits : c.tally-tally.result.replies < 2 ^ 32 = fits_32 c.tally-tally.result.replies c.args.self.now.events c.self.inside.events (omega (arith, replies_few c.args.isolate c.args.self.now.events, ap (λ tally. tally.replies) c.tally-tally.ensures))
     (sym (ap (λ ledger. ledger.events) c.self.view_is)) (omega (arith, c.len-few.ensures)) in
     omega arith
