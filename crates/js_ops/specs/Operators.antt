@@ -1,0 +1,134 @@
+-- What an operator comes to over the values of a store, before anything is made.
+-- ECMA-262, ApplyStringOrNumericBinaryOperator, IsLessThan, IsStrictlyEqual and Unary Operators, without conversions; docs/SCRIPTS.md, "Operators".
+use Rattle.std.specs.Prelude.{ℕ, ℤ, pos, List, ◌++◌, Bool, not, Option, None, Some, Result, Ok, Err, int_lt, int_le}
+use Rattle.std.specs.Ordering.{is_lt, nat_cmp}
+use Rattle.std.specs.Cmp.Lexicographic.{slice_cmp}
+use Rattle.charged_heap.specs.Store.{Store}
+use Rattle.charged_heap.specs.declared.values.Value.{Value}
+use Rattle.charged_heap.specs.declared.values.Value.TheVariants.{Num}
+use Rattle.js_syntax.specs.declared.kind.Kind.{Kind}
+use Rattle.js_syntax.specs.declared.kind.Kind.TheVariants as kind
+use Rattle.js_ops.specs.Numbers.{calculated, in_range}
+use Rattle.js_ops.specs.Values.{string_at, primitive_text, truthy, same, type_of, type_text}
+use Rattle.js_ops.specs.declared.answer.Answer.{Answer}
+use Rattle.js_ops.specs.declared.answer.Answer.TheVariants.{Truth, Number, Text, Fault}
+use Rattle.js_ops.specs.declared.answer.OperandFault.{OperandFault}
+use Rattle.js_ops.specs.declared.answer.OperandFault.TheVariants.{WrongKind}
+use Rattle.js_ops.specs.declared.operators.Arithmetic.{Arithmetic}
+use Rattle.js_ops.specs.declared.operators.Arithmetic.TheVariants as arithmetic
+use Rattle.js_ops.specs.declared.operators.Comparison.{Comparison}
+use Rattle.js_ops.specs.declared.operators.Comparison.TheVariants as comparison
+use Rattle.js_ops.specs.declared.operators.BinaryOperator.{BinaryOperator}
+use Rattle.js_ops.specs.declared.operators.BinaryOperator.TheVariants as binary
+use Rattle.js_ops.specs.declared.operators.UnaryOperator.{UnaryOperator}
+use Rattle.js_ops.specs.declared.operators.UnaryOperator.TheVariants as unary
+
+-- ---- which operator a node is
+
+-- the operator of two operands that a kind of node is
+abbrev pub binary_of : Kind → Option BinaryOperator
+binary_of kind.Same = Some binary.Same
+binary_of kind.NotSame = Some binary.NotSame
+binary_of kind.Less = Some (binary.Compare comparison.Less)
+binary_of kind.More = Some (binary.Compare comparison.More)
+binary_of kind.AtMost = Some (binary.Compare comparison.AtMost)
+binary_of kind.AtLeast = Some (binary.Compare comparison.AtLeast)
+binary_of kind.Add = Some (binary.Calculate arithmetic.Add)
+binary_of kind.Sub = Some (binary.Calculate arithmetic.Sub)
+binary_of kind.Mul = Some (binary.Calculate arithmetic.Mul)
+binary_of kind.Div = Some (binary.Calculate arithmetic.Div)
+binary_of kind.Rem = Some (binary.Calculate arithmetic.Rem)
+binary_of _ = None
+
+-- the operator of one operand that a kind of node is; `++` and `--` raise and lower it, on either side
+abbrev pub unary_of : Kind → Option UnaryOperator
+unary_of kind.Not = Some unary.Not
+unary_of kind.Minus = Some unary.Minus
+unary_of kind.Plus = Some unary.Plus
+unary_of kind.TypeOf = Some unary.TypeOf
+unary_of kind.PreInc = Some unary.Raise
+unary_of kind.PreDec = Some unary.Lower
+unary_of kind.PostInc = Some unary.Raise
+unary_of kind.PostDec = Some unary.Lower
+unary_of _ = None
+
+-- ---- arithmetic
+
+-- a number, or why there is none
+abbrev pub of_number : Result ℤ OperandFault → Answer
+of_number (Ok n) = Number n
+of_number (Err fault) = Fault fault
+
+-- two texts joined, where both are there
+abbrev pub joined : Option (List ℕ) → Option (List ℕ) → Answer
+joined (Some a) (Some b) = Text (a ++ b)
+joined _ _ = Fault WrongKind
+
+-- of two values, the first's string and the second's: a string joins with a string or with a primitive's text
+abbrev pub joined_values : Value → Value → Option (List ℕ) → Option (List ℕ) → Answer
+joined_values left right None None = Fault WrongKind
+joined_values left right (Some a) None = joined (Some a) (primitive_text right)
+joined_values left right None (Some b) = joined (primitive_text left) (Some b)
+joined_values left right (Some a) (Some b) = joined (Some a) (Some b)
+
+-- the operator on two numbers; `+` also joins texts
+abbrev pub calculation : Store → Arithmetic → Value → Value → Answer
+calculation s op (Num a) (Num b) = of_number (calculated op a b)
+calculation s arithmetic.Add left right = joined_values left right (string_at s left) (string_at s right)
+calculation s op left right = Fault WrongKind
+
+-- ---- comparisons
+
+abbrev pub compares_numbers : Comparison → ℤ → ℤ → Bool
+compares_numbers comparison.Less a b = int_lt a b
+compares_numbers comparison.More a b = int_lt b a
+compares_numbers comparison.AtMost a b = int_le a b
+compares_numbers comparison.AtLeast a b = int_le b a
+
+-- a stands before b by code units, a text before all that it begins
+abbrev pub is_before : List ℕ → List ℕ → Bool
+is_before a b = is_lt (slice_cmp nat_cmp a b)
+
+abbrev pub compares_texts : Comparison → List ℕ → List ℕ → Bool
+compares_texts comparison.Less a b = is_before a b
+compares_texts comparison.More a b = is_before b a
+compares_texts comparison.AtMost a b = not (is_before b a)
+compares_texts comparison.AtLeast a b = not (is_before a b)
+
+-- two strings compared, where both are there
+abbrev pub compared : Comparison → Option (List ℕ) → Option (List ℕ) → Answer
+compared op (Some a) (Some b) = Truth (compares_texts op a b)
+compared op _ _ = Fault WrongKind
+
+-- two numbers or two strings compared
+abbrev pub comparison_of : Store → Comparison → Value → Value → Answer
+comparison_of s op (Num a) (Num b) = Truth (compares_numbers op a b)
+comparison_of s op left right = compared op (string_at s left) (string_at s right)
+
+-- ---- all operators
+
+-- what an operator of two operands comes to
+abbrev pub binary_answer : Store → BinaryOperator → Value → Value → Answer
+binary_answer s (binary.Calculate op) left right = calculation s op left right
+binary_answer s (binary.Compare op) left right = comparison_of s op left right
+binary_answer s binary.Same left right = Truth (same s left right)
+binary_answer s binary.NotSame left right = Truth (not (same s left right))
+
+-- what `-`, `+`, `++` and `--` come to on a number
+abbrev pub sign_of : UnaryOperator → ℤ → Answer
+sign_of unary.Minus n = of_number (calculated arithmetic.Sub (pos 0) n)
+sign_of unary.Plus n = of_number (in_range n)
+sign_of unary.Raise n = of_number (calculated arithmetic.Add n (pos 1))
+sign_of unary.Lower n = of_number (calculated arithmetic.Sub n (pos 1))
+sign_of _ n = Fault WrongKind
+
+-- what they come to on a value
+abbrev pub signed : UnaryOperator → Value → Answer
+signed op (Num n) = sign_of op n
+signed op _ = Fault WrongKind
+
+-- what an operator of one operand comes to
+abbrev pub unary_answer : Store → UnaryOperator → Value → Answer
+unary_answer s unary.Not operand = Truth (not (truthy s operand))
+unary_answer s unary.TypeOf operand = Text (type_text (type_of s operand))
+unary_answer s op operand = signed op operand

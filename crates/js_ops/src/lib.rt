@@ -1,0 +1,25 @@
+//! The operators of scripts over the values of a heap.
+//!
+//! Contracts see a `Heap` as its `Store`, and say what a call gives by one function of that store.
+//! Rely on: a call gives that value, throws that error or is refused with those cells, and nothing else;
+//! a closed heap stays closed however a call ends.
+//! Over `charged_heap` and `js_syntax`; under all that evaluates.
+//! Begin with `specs/Operators.antt` and `specs/Outcome.antt`, then `src/operations.rt`.
+#![tactic(auto)]
+
+mod answer;
+mod calculate;
+mod compare;
+mod decide;
+mod join;
+mod making;
+mod operations;
+mod operators;
+mod values;
+
+pub use answer::{Answer, OperandFault};
+pub use charged_heap::Fail;
+pub use making::{make_text, throw};
+pub use operations::{binary, unary};
+pub use operators::{Arithmetic, BinaryOperator, Comparison, UnaryOperator};
+pub use values::{same, truthy, type_of};
