@@ -149,12 +149,12 @@ fn is_text(heap: &Heap, n: u32, units: &Units) -> bool {
 }
 
 /// Whether a value is a string of these units.
-fn is_string(heap: &Heap, value: Value, units: &Units) -> bool {
+pub fn is_string(heap: &Heap, value: Value, units: &Units) -> bool {
     matches!(value, Value::Item(n) if is_text(heap, n, units))
 }
 
 /// Whether a value is an error of this kind with this message, made as the last two items.
-fn is_error(heap: &Heap, value: Value, kind: ErrorKind, message: &Units) -> bool {
+pub fn is_error(heap: &Heap, value: Value, kind: ErrorKind, message: &Units) -> bool {
     match value {
         Value::Item(n) if n < heap.len() => match heap.get(n) {
             Item::Error(is, text) => {

@@ -1,0 +1,4 @@
+pub mod ArrayLemmas
+pub mod Fitting
+pub mod KeyLemmas
+pub mod Sound
