@@ -1,0 +1,160 @@
+-- What a node does: a tick, and the rule of its form, one node deeper. And what a whole run does.
+-- ECMA-262, Runtime Semantics: Evaluation. Ticks and nesting are this project's own; docs/SCRIPTS.md, "Evaluation", docs/PRICES.md, "Ticks".
+use Rattle.std.specs.Prelude.{◌≡◌, ℕ, zero, suc, ◌+◌, ◌-◌, List, codes, Option, Some, None, Bool, true, false, Result, Ok, Err}
+use Rattle.ivm_text.specs.declared.copies.ErrorKind.TheVariants.{RangeError}
+use Rattle.charged_heap.specs.Store.{Store}
+use Rattle.charged_heap.specs.declared.values.Value.{Value}
+use Rattle.charged_heap.specs.declared.values.Value.TheVariants as value
+use Rattle.js_syntax.specs.declared.kind.Kind.{Kind}
+use Rattle.js_syntax.specs.declared.kind.Kind.TheVariants as kinds
+use Rattle.js_ops.specs.Outcome.{text_made, thrown}
+use Rattle.js_ops.specs.declared.operators.Arithmetic.TheVariants as arithmetic
+use Rattle.js_ops.specs.declared.operators.Comparison.TheVariants as comparison
+use Rattle.js_ops.specs.declared.operators.BinaryOperator.TheVariants as binary
+use Rattle.js_ops.specs.declared.operators.UnaryOperator.TheVariants as unary
+use Rattle.js_scopes.specs.Names.{name_outcome}
+use Rattle.script_trees.specs.Tree.{Tree, kid}
+use Rattle.script_trees.specs.Declarations.{declarations}
+use Rattle.script_scopes.specs.Scripts.{script_declared}
+use Rattle.script_meaning.specs.Outcome.{State, Out, Inside, gives, is_empty, on_heap, of_heap, with_value, with_tick}
+use Rattle.script_meaning.specs.Places.{ScriptList, form_at, name_of}
+use Rattle.script_meaning.specs.Functions.{call_rule}
+use Rattle.script_meaning.specs.Expressions.{comma_rule, binary_rule, unary_rule, typeof_rule, void_rule, condition_rule, logical_rule, assign_rule, update_rule, step_rule, member_rule, index_rule, called_rule, array_rule, object_rule, closure_made, function_rule}
+use Rattle.script_meaning.specs.Statements.{list_rule, block_rule, declare_rule, if_rule, return_rule}
+use Rattle.script_meaning.specs.declared.completion.Abrupt.{Abrupt}
+use Rattle.script_meaning.specs.declared.completion.Abrupt.TheVariants as abrupt
+use Rattle.script_meaning.specs.declared.completion.Completion.{Completion}
+use Rattle.script_meaning.specs.declared.completion.Completion.TheVariants as completion
+use Rattle.script_meaning.specs.declared.completion.Ended.{Ended}
+use Rattle.script_meaning.specs.declared.completion.Ended.TheVariants as ended
+use Rattle.script_meaning.specs.declared.site.Place.TheVariants as place
+use Rattle.script_meaning.specs.declared.site.Role.{Role}
+use Rattle.script_meaning.specs.declared.site.Role.TheVariants as role
+use Rattle.script_meaning.specs.declared.site.Site.{Site}
+
+-- ---- by form
+
+-- an expression for its value; forms that are no expressions have none, and those that aren't built yet
+abbrev pub value_by : Kind → ScriptList → Inside → Tree → Site → State → Out
+value_by kinds.Num scripts at t site s = gives (value.Num t.head.value) s
+value_by kinds.Text scripts at t site s = of_heap s (text_made (name_of t) s.heap)
+value_by kinds.Undefined scripts at t site s = gives value.Undefined s
+value_by kinds.Null scripts at t site s = gives value.Null s
+value_by kinds.True scripts at t site s = gives (value.Bool true) s
+value_by kinds.False scripts at t site s = gives (value.Bool false) s
+value_by kinds.This scripts at t site s = gives site.receiver s
+value_by kinds.Name scripts at t site s = of_heap s (name_outcome (name_of t) site.scope site.global s.heap)
+value_by kinds.Comma scripts at t site s = comma_rule at t.kids site s
+value_by kinds.Assign scripts at t site s = assign_rule scripts at t.kids site s
+value_by kinds.AssignAdd scripts at t site s = update_rule (binary.Calculate arithmetic.Add) scripts at t.kids site s
+value_by kinds.AssignSub scripts at t site s = update_rule (binary.Calculate arithmetic.Sub) scripts at t.kids site s
+value_by kinds.AssignMul scripts at t site s = update_rule (binary.Calculate arithmetic.Mul) scripts at t.kids site s
+value_by kinds.AssignDiv scripts at t site s = update_rule (binary.Calculate arithmetic.Div) scripts at t.kids site s
+value_by kinds.AssignRem scripts at t site s = update_rule (binary.Calculate arithmetic.Rem) scripts at t.kids site s
+value_by kinds.Arrow scripts at t site s = of_heap s (closure_made t.head.number_of_node site site.receiver s.heap)
+value_by kinds.FunctionExpr scripts at t site s = function_rule t site s
+value_by kinds.Cond scripts at t site s = condition_rule at t.kids site s
+value_by kinds.Coalesce scripts at t site s = logical_rule kinds.Coalesce at t.kids site s
+value_by kinds.Or scripts at t site s = logical_rule kinds.Or at t.kids site s
+value_by kinds.And scripts at t site s = logical_rule kinds.And at t.kids site s
+value_by kinds.Same scripts at t site s = binary_rule binary.Same at t.kids site s
+value_by kinds.NotSame scripts at t site s = binary_rule binary.NotSame at t.kids site s
+value_by kinds.Less scripts at t site s = binary_rule (binary.Compare comparison.Less) at t.kids site s
+value_by kinds.More scripts at t site s = binary_rule (binary.Compare comparison.More) at t.kids site s
+value_by kinds.AtMost scripts at t site s = binary_rule (binary.Compare comparison.AtMost) at t.kids site s
+value_by kinds.AtLeast scripts at t site s = binary_rule (binary.Compare comparison.AtLeast) at t.kids site s
+value_by kinds.Add scripts at t site s = binary_rule (binary.Calculate arithmetic.Add) at t.kids site s
+value_by kinds.Sub scripts at t site s = binary_rule (binary.Calculate arithmetic.Sub) at t.kids site s
+value_by kinds.Mul scripts at t site s = binary_rule (binary.Calculate arithmetic.Mul) at t.kids site s
+value_by kinds.Div scripts at t site s = binary_rule (binary.Calculate arithmetic.Div) at t.kids site s
+value_by kinds.Rem scripts at t site s = binary_rule (binary.Calculate arithmetic.Rem) at t.kids site s
+value_by kinds.Not scripts at t site s = unary_rule unary.Not at t.kids site s
+value_by kinds.Minus scripts at t site s = unary_rule unary.Minus at t.kids site s
+value_by kinds.Plus scripts at t site s = unary_rule unary.Plus at t.kids site s
+value_by kinds.TypeOf scripts at t site s = typeof_rule scripts at t.kids site s
+value_by kinds.Void scripts at t site s = void_rule at t.kids site s
+value_by kinds.PreInc scripts at t site s = step_rule unary.Raise true scripts at t.kids site s
+value_by kinds.PreDec scripts at t site s = step_rule unary.Lower true scripts at t.kids site s
+value_by kinds.PostInc scripts at t site s = step_rule unary.Raise false scripts at t.kids site s
+value_by kinds.PostDec scripts at t site s = step_rule unary.Lower false scripts at t.kids site s
+value_by kinds.Member scripts at t site s = member_rule role.Value at t site s
+value_by kinds.Index scripts at t site s = index_rule role.Value at t.kids site s
+value_by kinds.Call scripts at t site s = called_rule scripts at t.kids site s
+value_by kinds.Array scripts at t site s = array_rule at t.kids site s
+value_by kinds.Object scripts at t site s = object_rule at t site s
+value_by _ scripts at t site s = is_empty s
+
+-- a target for its place; no other form is one
+abbrev pub target_by : Kind → Inside → Tree → Site → State → Out
+target_by kinds.Name at t site s = (Ok (ended.Place (place.Name t.head.number_of_node)), s)
+target_by kinds.Member at t site s = member_rule role.Target at t site s
+target_by kinds.Index at t site s = index_rule role.Target at t.kids site s
+target_by _ at t site s = is_empty s
+
+-- a callee for its function, and for what it is a member of
+abbrev pub callee_by : Kind → ScriptList → Inside → Tree → Site → State → Out
+callee_by kinds.Member scripts at t site s = member_rule role.Callee at t site s
+callee_by kinds.Index scripts at t site s = index_rule role.Callee at t.kids site s
+callee_by kind scripts at t site s = value_by kind scripts at t site s
+
+-- a statement; forms that are no statements are empty, and those that aren't built yet
+abbrev pub statement_by : Kind → Inside → Tree → Site → State → Out
+statement_by kinds.Script at t site s = list_rule at t.kids site None s
+statement_by kinds.Body at t site s = list_rule at t.kids site None s
+statement_by kinds.Block at t site s = block_rule at t.kids site s
+statement_by kinds.Let at t site s = declare_rule at t.head.names t.kids site s
+statement_by kinds.Const at t site s = declare_rule at t.head.names t.kids site s
+statement_by kinds.ExprStmt at t site s = at role.Value (kid 0 t.kids) site s
+statement_by kinds.If at t site s = if_rule at t.kids site s
+statement_by kinds.Return at t site s = return_rule at t.kids site s
+statement_by _ at t site s = is_empty s
+
+abbrev pub node_by : Role → ScriptList → Inside → Tree → Site → State → Out
+node_by role.Value scripts at t site s = value_by t.head.kind scripts at t site s
+node_by role.Target scripts at t site s = target_by t.head.kind at t site s
+node_by role.Callee scripts at t site s = callee_by t.head.kind scripts at t site s
+node_by role.Statement scripts at t site s = statement_by t.head.kind at t site s
+
+-- ---- nodes
+
+abbrev pub too_deep : State → Out
+too_deep s = of_heap s (thrown RangeError (codes "nesting too deep") s.heap)
+
+-- a node where at most so many may be in evaluation, itself included: it takes its tick, and then its form's rule
+-- is followed; where none may be, an error is thrown in its place
+unfoldable pub evaluated : ScriptList → ℕ → Inside
+evaluated scripts zero for t site s = with_tick s too_deep
+evaluated scripts (suc room) for t site s = with_tick s (λ s. node_by for scripts (evaluated scripts room) t site s)
+
+-- ---- runs
+
+-- at most so many nodes are in evaluation at once
+abbrev pub NESTING : ℕ
+NESTING = 256
+
+-- how a run ends; no `return`, `break` or `continue` leaves a script or a function
+abbrev pub completion_of : Result Ended Abrupt → Completion
+completion_of (Ok (ended.Value v)) = completion.Normal v
+completion_of (Ok _) = completion.Normal value.Undefined
+completion_of (Err (abrupt.Throw v)) = completion.Throw v
+completion_of (Err (abrupt.Stop cause)) = completion.Stop cause
+completion_of (Err _) = completion.Normal value.Undefined
+
+-- a script is run in the record and over the global object of a context, which is its `this`: its names are declared
+-- first, and then its statements are carried out
+unfoldable pub script_run : ScriptList → ℕ → ℕ → ℕ → ℕ → State → Out
+script_run scripts script root names global s =
+    on_heap s (script_declared script names global (declarations (form_at scripts script root).kids) s.heap)
+      (λ _ s. evaluated scripts NESTING role.Statement (form_at scripts script root)
+        (record { script = script; scope = names; global = global; receiver = value.Item global }) s)
+
+-- a function is called with these arguments
+unfoldable pub call_run : ScriptList → Value → Value → List Value → State → Out
+call_run scripts function receiver arguments s = call_rule (evaluated scripts NESTING) scripts function receiver arguments s
+
+-- the run ends so, with this store and so many ticks taken of the budget
+abbrev pub run_end : ℕ → Out → Completion × Store × ℕ
+run_end budget (r, s) = (completion_of r, s.heap, budget - s.left)
+
+abbrev pub run_start : Store → ℕ → ℕ → State
+run_start s ticks budget = record { heap = s; left = budget - ticks }

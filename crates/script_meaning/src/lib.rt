@@ -1,0 +1,13 @@
+//! What scripts mean: how each form is evaluated, with its ticks and cells.
+//!
+//! Contracts of the evaluator cite `Evaluates`, a function of the scripts, the store and the ticks that are left.
+//! Rely on: one rule a form; each rule speaks of trees, values and stores, and of what stands inside it.
+//! Over `script_trees`, `script_scopes` and `js_members`; under the steps and the machine that carry it out.
+//! Begin with `specs/Outcome.antt`, `specs/Expressions.antt` and `specs/Statements.antt`.
+#![tactic(auto)]
+
+mod completion;
+mod site;
+
+pub use completion::{Abrupt, Completion, Ended, StopCause};
+pub use site::{Key, Place, Role, Site};

@@ -1,0 +1,28 @@
+-- What a call over a heap gives, or why it gives nothing, with the store after it; and how one goes on after another.
+-- This project's own; docs/PRICES.md, "When the heap is full".
+use Rattle.std.specs.Prelude.{◌≡◌, ◌≢◌, ℕ, length, min, Result, Ok, Err, nat_le, if◌then◌else◌}
+use Rattle.charged_heap.specs.Price.{charge_of, price_of}
+use Rattle.charged_heap.specs.Store.{Store, with_more}
+use Rattle.charged_heap.specs.declared.price.TheConstants.{GREATEST_TOLD}
+use Rattle.charged_heap.specs.declared.fault.Fail.{Fail}
+use Rattle.charged_heap.specs.declared.fault.Fail.TheVariants.{Over, NoMemory}
+use Rattle.charged_heap.specs.declared.item.Item.{Item}
+
+-- what is given, what is thrown or a refusal, and the store after it
+abbrev pub Ends : Type 0 → Type 0
+Ends A = Result A Fail × Store
+
+-- the result and the store are those of the meaning, unless no memory was found
+abbrev pub Meets : {A : Type 0} → Result A Fail → Store → Ends A → Type 0
+Meets result new meaning = result ≢ Err NoMemory → meaning ≡ (result, new)
+
+-- goes on with what was given; what is thrown or refused stays
+abbrev pub and_then : {A B : Type 0} → Ends A → (A → Store → Ends B) → Ends B
+and_then (Ok a, s) next = next a s
+and_then (Err fail, s) next = (Err fail, s)
+
+-- one more item, which gets its number; where it doesn't fit, the refusal alone
+abbrev pub item_made : Item → Store → Ends ℕ
+item_made one s =
+    if nat_le (charge_of s.items + price_of one) s.limit then (Ok (length s.items), with_more s one)
+    else (Err (Over (charge_of s.items) (min (price_of one) GREATEST_TOLD) s.limit), s)

@@ -1,0 +1,2 @@
+//! The scopes of lists, calls and scripts.
+#![tactic(auto)]

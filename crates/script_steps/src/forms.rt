@@ -1,0 +1,98 @@
+//! What stands at a node of a script by numbers; nothing where there is no such node.
+ghost use Rattle.std.specs.Prelude.{◌≡◌, ◌<◌, length, IfOk, MatchOption};
+ghost use Rattle.std.specs.Option.{option_copied};
+ghost use Rattle.script_trees.specs.Tree.{tree_of, absent, kid, kid_count};
+ghost use Rattle.script_trees.specs.Declarations.{declarations};
+ghost use Rattle.script_meaning.specs.Places.{form_at, script_at};
+
+use ivm_text::{NoMemory, Units};
+use item_list::Items;
+use js_syntax::{Kind, Script, Scripts};
+use script_trees::Declarations;
+use std::alloc::Global;
+
+/// The script with this number, where it has the node.
+fn script_with(scripts: &Scripts, script: u32, node: u32) -> Option<&Script>
+    ensures there { MatchOption result (form_at scripts.now script node ≡ absent) (λ found. (found.now ≡ script_at scripts.now script) × (node < length found.now)) }
+    ensures form { MatchOption result (form_at scripts.now script node ≡ absent) (λ found. form_at scripts.now script node ≡ tree_of found.now node) }
+{
+    let found = scripts.get(script)?.script();
+    if node < found.len() { Some(found) } else { None }
+}
+
+/// The kind of the form.
+pub(crate) fn kind_at(scripts: &Scripts, script: u32, node: u32) -> Kind
+    ensures { result ≡ ((form_at scripts.now script node).head).kind }
+{
+    match script_with(scripts, script, node) {
+        Some(found) => script_trees::kind(found, node),
+        None => Kind::Absent,
+    }
+}
+
+/// The number of a part, counted from 0; one of no node where there is no such part.
+pub(crate) fn kid_at(scripts: &Scripts, script: u32, node: u32, place: u32) -> u32
+    ensures { form_at scripts.now script result ≡ kid place ((form_at scripts.now script node).kids) }
+{
+    match script_with(scripts, script, node) {
+        Some(found) if place < script_trees::kid_count(found, node) => {
+            script_trees::kid(found, node, place)
+        }
+        _ => u32::MAX,
+    }
+}
+
+/// How many parts the form has.
+pub(crate) fn kid_count_at(scripts: &Scripts, script: u32, node: u32) -> u32
+    ensures { result ≡ kid_count ((form_at scripts.now script node).kids) }
+{
+    match script_with(scripts, script, node) {
+        Some(found) => script_trees::kid_count(found, node),
+        None => 0,
+    }
+}
+
+/// The form's own name, where it has one.
+pub(crate) fn name_at(scripts: &Scripts, script: u32, node: u32) -> Option<&Units>
+    ensures { option_copied result ≡ ((form_at scripts.now script node).head).name }
+{
+    match script_with(scripts, script, node) {
+        Some(found) => script_trees::name(found, node),
+        None => None,
+    }
+}
+
+/// The names of the form.
+pub(crate) fn names_at(scripts: &Scripts, script: u32, node: u32) -> &[Units]
+    ensures { result.now ≡ ((form_at scripts.now script node).head).names }
+{
+    match script_with(scripts, script, node) {
+        Some(found) => script_trees::names(found, node).as_slice(),
+        None => &[],
+    }
+}
+
+/// The value of a number; 0 for all other forms.
+pub(crate) fn number_at(scripts: &Scripts, script: u32, node: u32) -> i64
+    ensures { result ≡ ((form_at scripts.now script node).head).value }
+{
+    match script_with(scripts, script, node) {
+        Some(found) => script_trees::number(found, node),
+        None => 0,
+    }
+}
+
+/// What the statements among the form's parts declare.
+pub(crate) fn declarations_at(
+    alloc: Global,
+    scripts: &Scripts,
+    script: u32,
+    node: u32,
+) -> Result<Declarations, NoMemory>
+    ensures { IfOk result (λ list. list ≡ declarations ((form_at scripts.now script node).kids)) }
+{
+    match script_with(scripts, script, node) {
+        Some(found) => script_trees::declarations(alloc, found, node),
+        None => Ok(Items::new(alloc)),
+    }
+}
