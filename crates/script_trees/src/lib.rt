@@ -7,5 +7,8 @@
 #![tactic(auto)]
 
 mod declaration;
+mod form;
+mod parts;
 
 pub use declaration::{Declaration, Declarations};
+pub use parts::{is_function, kid, kid_count, kind, name, names, node_place, number, own_name};
