@@ -16,8 +16,8 @@ declarations_from_more list more whole i kids t within is gains so_far =
     let next = declarations (kids_from (suc i) kids) in
     let declared = λ (t : Tree). declared_by ((t.head).kind) (t.head) in
     rw (add-one i) (ap (λ l. l ++ next) (gains ∙ ap (λ (t : Tree). list ++ declared t) is)
-      ∙ (append_assoc list (declared (kid i kids)) next
-      ∙ (ap (λ (trees : Trees). list ++ declarations trees) (sym (kids_from-at i kids within)) ∙ so_far)))
+    ∙ (append_assoc list (declared (kid i kids)) next
+    ∙ (ap (λ (trees : Trees). list ++ declarations trees) (sym (kids_from-at i kids within)) ∙ so_far)))
 
 -- behind the last part it has all of them
 pub declarations_from_all : (list whole : List Declaration) (i : ℕ) (kids : Trees) → kid_count kids ≤ i

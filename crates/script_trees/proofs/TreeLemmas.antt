@@ -1,10 +1,11 @@
 -- The tree of a node is its form over the trees of its kids.
-use Rattle.std.proofs.Common.{◌≡◌, ℕ, zero, suc, ◌<◌, Bool, true, false, IsTrue, nat_lt, if◌then◌else◌, List, [], ◌∷◌, length, Some, slice_get, refl, ap, sym, ◌∙◌, subst, arith}
+use Rattle.std.proofs.Common.{◌≡◌, ℕ, zero, suc, ◌+◌, ◌<◌, Bool, true, false, nat_lt, if◌then◌else◌, List, [], ◌∷◌, length, Some, slice_get, refl, ap, sym, ◌∙◌, subst, arith}
 use Rattle.std.proofs.lemmas.Bool.{ltb-true, lt-ltb}
-use Rattle.std.proofs.lemmas.Option.{get_or_from_slice_get}
+use Rattle.std.proofs.lemmas.Option.{get_or_from_slice_get, slice_get-get_or}
 use Rattle.js_syntax.specs.declared.node.Node.{Node}
-use Rattle.js_syntax.specs.Shape.{AreBelow, Counts, IsFormed, shape_of}
+use Rattle.js_syntax.specs.Shape.{AreBelow, AreSound, Counts, IsFormed, shape_of}
 use Rattle.js_syntax.specs.Tree.{Head, Trees, nothing, tree, AreTrees, no_trees, some_trees, head_of}
+use Rattle.js_syntax.proofs.SoundLemmas.{sound_at}
 use Rattle.script_trees.specs.Tree.{Tree, absent, kid, kid_count, trees_by, node_at, vacant, only_below, tree_by, tree_within, tree_of, single}
 use Rattle.script_trees.specs.Forms.{HasForm}
 use Rattle.script_trees.proofs.PartLemmas.{kid_count-trees_by, kid-trees_by}
@@ -45,7 +46,7 @@ trees_by-below : (n : ℕ) (at other : ℕ → Tree) (numbers : List ℕ) → Ar
 trees_by-below n at other [] below same = refl
 trees_by-below n at other (m ∷ numbers) below same =
     put_first (at m) (other m) (trees_by at numbers) (trees_by other numbers)
-      (same m (below zero m refl)) (trees_by-below n at other numbers (λ k i here. below (suc k) i here) same)
+    (same m (below zero m refl)) (trees_by-below n at other numbers (λ k i here. below (suc k) i here) same)
 
 over : (n : ℕ) (node : Node) → Trees → Tree
 over n node kids = record { head = head_of n node; kids = kids }
@@ -58,8 +59,8 @@ tree_within-levels zero b nodes n in_a in_b = absurd (omega arith)
 tree_within-levels (suc a) zero nodes n in_a in_b = absurd (omega arith)
 tree_within-levels (suc a) (suc b) nodes n in_a in_b =
     ap (over n (node_at nodes n)) (trees_by-same (only_below n (tree_within a nodes)) (only_below n (tree_within b nodes)) ((node_at nodes n).kids)
-      (λ k. only_below-same n (tree_within a nodes) (tree_within b nodes) k
-        (λ within. tree_within-levels a b nodes k (omega arith) (omega arith))))
+    (λ k. only_below-same n (tree_within a nodes) (tree_within b nodes) k
+    (λ within. tree_within-levels a b nodes k (omega arith) (omega arith))))
 
 -- ---- the tree of a node
 
@@ -69,7 +70,7 @@ pub tree_of-at : (nodes : List Node) (n : ℕ) → AreBelow ((node_at nodes n).k
 unfolding tree_of tree_within over
 tree_of-at nodes n below =
     ap (over n (node_at nodes n)) (trees_by-below n (only_below n (tree_within n nodes)) (tree_of nodes) ((node_at nodes n).kids) below
-      (λ k within. only_below-within n (tree_within n nodes) k within ∙ tree_within-levels n (suc k) nodes k within (omega arith)))
+    (λ k within. only_below-within n (tree_within n nodes) k within ∙ tree_within-levels n (suc k) nodes k within (omega arith)))
 
 -- the same of a node that was found
 pub tree_of-node : (nodes : List Node) (n : ℕ) (node : Node) → slice_get nodes n ≡ Some node
@@ -77,6 +78,13 @@ pub tree_of-node : (nodes : List Node) (n : ℕ) (node : Node) → slice_get nod
 tree_of-node nodes n node here below =
     let found : node_at nodes n ≡ node = get_or_from_slice_get nodes n node vacant here in
     subst (λ (v : Node). AreBelow (v.kids) n → tree_of nodes n ≡ tree_by (tree_of nodes) n v) found (tree_of-at nodes n) below
+
+-- the same of any node, where each node's kids stand below it
+pub tree_of-sound : (nodes : List Node) (n : ℕ) → AreSound nodes → n < length nodes
+    → tree_of nodes n ≡ tree_by (tree_of nodes) n (node_at nodes n)
+tree_of-sound nodes n sound within =
+    let below : AreBelow ((node_at nodes n).kids) (0 + n) = (sound_at 0 nodes n (node_at nodes n) sound (slice_get-get_or nodes n vacant within)).0 in
+    tree_of-at nodes n (subst (AreBelow ((node_at nodes n).kids)) (omega arith) below)
 
 -- its parts are the trees of its kids
 pub kid_count-node : (nodes : List Node) (n : ℕ) (node : Node)
@@ -96,11 +104,11 @@ pub formed_tree : (nodes : List Node) (n : ℕ) (node : Node)
     → tree_of nodes n ≡ tree_by (tree_of nodes) n node → IsFormed node → HasForm (node.kind) (tree_of nodes n)
 formed_tree nodes n node is formed =
     subst (HasForm (node.kind)) (sym is)
-      (record {
-        name = formed.name;
-        names = formed.names;
-        kids = subst (Counts ((shape_of (node.kind)).kids) (length (node.names))) (sym (kid_count-trees_by (tree_of nodes) (node.kids))) (formed.kids);
-      })
+    (record {
+      name = formed.name;
+      names = formed.names;
+      kids = subst (Counts ((shape_of (node.kind)).kids) (length (node.names))) (sym (kid_count-trees_by (tree_of nodes) (node.kids))) (formed.kids);
+    })
 
 -- ---- the trees of nodes
 
@@ -124,4 +132,4 @@ pub tree_of-tree : (nodes : List Node) (n : ℕ) (node : Node) → slice_get nod
     → AreTrees nodes (n ∷ []) (single (tree_of nodes n))
 tree_of-tree nodes n node here below each =
     subst (λ (t : Tree). AreTrees nodes (n ∷ []) (single t)) (sym (tree_of-node nodes n node here below))
-      (some_trees here (trees_by-trees nodes n (node.kids) below each) no_trees)
+    (some_trees here (trees_by-trees nodes n (node.kids) below each) no_trees)

@@ -3,7 +3,7 @@
 use Rattle.std.specs.Prelude.{Bool, true, false, length}
 use Rattle.js_syntax.specs.declared.kind.Kind.{Kind}
 use Rattle.js_syntax.specs.declared.kind.Kind.TheVariants as kinds
-use Rattle.js_syntax.specs.Shape.{HasName, Counts, Shape, shape_of}
+use Rattle.js_syntax.specs.Shape.{HasName, Counts, shape_of}
 use Rattle.script_trees.specs.Tree.{Tree, kid_count}
 
 -- a form of that kind has the name, the names and the parts that the kind asks for

@@ -8,7 +8,7 @@ pub loop-i-preserved : goal.loop-i-preserved
 loop-i-preserved c =
     let kids = (tree_of c.args.script.now c.args.n).kids in
     declarations_from_more c.loop-i.list c.add_declared.new.list (declarations kids) c.loop-i.i kids (tree_of c.args.script.now c.kid.result)
-      (omega (arith, c.kid_count-i-end.ensures)) c.kid.ensures.tree c.in_ok-add_declared.ensures c.loop-i.invariant
+    (omega (arith, c.kid_count-i-end.ensures)) c.kid.ensures.tree c.in_ok-add_declared.ensures c.loop-i.invariant
 
 pub returns : goal.returns
 returns c =

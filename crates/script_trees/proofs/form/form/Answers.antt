@@ -1,5 +1,3 @@
-use Rattle.std.proofs.Common.{◌≡◌}
-use Rattle.script_trees.specs.Tree.{tree_by, tree_of}
 use Rattle.script_trees.proofs.TreeLemmas.{tree_of-node, formed_tree, kid_count-node, kid-node}
 use Rattle.script_trees.proofs.form.form.Goals as goal
 
