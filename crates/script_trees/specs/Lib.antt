@@ -1,2 +1,4 @@
 pub mod Tree
+pub mod Forms
 pub mod Declarations
+pub mod Named

@@ -1,6 +1,6 @@
 -- The tree under a node of a script, as a function of the script's nodes.
 -- This project's own: a script's nodes stand in one list, each kid below its parent; docs/SCRIPTS.md, "Nodes and places".
-use Rattle.std.specs.Prelude.{ℕ, zero, suc, pos, List, [], ◌∷◌, length, slice_index_or, Option, None}
+use Rattle.std.specs.Prelude.{ℕ, zero, suc, pos, List, [], ◌∷◌, nat_lt, length, ◌-◌, slice_index_or, None, if◌then◌else◌}
 use Rattle.js_syntax.specs.declared.kind.Kind.TheVariants as kinds
 use Rattle.js_syntax.specs.declared.node.Node.{Node}
 use Rattle.js_syntax.specs.Tree.{Head, Trees, nothing, tree, head_of}
@@ -54,11 +54,25 @@ node_at nodes n = slice_index_or nodes n vacant
 abbrev pub tree_by : (ℕ → Tree) → ℕ → Node → Tree
 tree_by at n node = record { head = head_of n node; kids = trees_by at (node.kids) }
 
--- the tree under node n, at most so many levels deep
+-- what `at` gives for a number below n; no other number has a tree
+abbrev pub only_below : ℕ → (ℕ → Tree) → ℕ → Tree
+only_below n at k = if nat_lt k n then at k else absent
+
+-- the tree under node n, at most so many levels deep; a part is the tree of a kid that stands below its parent
 unfoldable pub tree_within : ℕ → List Node → ℕ → Tree
 tree_within zero nodes n = absent
-tree_within (suc levels) nodes n = tree_by (tree_within levels nodes) n (node_at nodes n)
+tree_within (suc levels) nodes n = tree_by (only_below n (tree_within levels nodes)) n (node_at nodes n)
 
 -- the tree under node n: it is at most n + 1 levels deep, since each kid stands below its parent
 unfoldable pub tree_of : List Node → ℕ → Tree
 tree_of nodes n = tree_within (suc n) nodes n
+
+-- ---- as a list of one
+
+-- the tree, with nothing behind it
+abbrev pub single : Tree → Trees
+single t = tree (t.head) (t.kids) nothing
+
+-- the tree of a script: that under its root, which is the last node
+abbrev pub script_tree : List Node → Trees
+script_tree nodes = single (tree_of nodes (length nodes - 1))

@@ -7,5 +7,15 @@
 #![tactic(auto)]
 
 mod declaration;
+mod declare;
+mod form;
+mod laws;
+mod parts;
 
 pub use declaration::{Declaration, Declarations};
+pub use declare::declarations;
+pub use laws::{has_one_tree, has_tree};
+pub use parts::{is_function, kid, kid_count, kind, name, names, node_place, number, own_name};
+
+#[cfg(test)]
+mod tests;
