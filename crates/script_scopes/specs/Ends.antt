@@ -1,6 +1,6 @@
 -- What a call over a heap gives, or why it gives nothing, with the store after it; and how one goes on after another.
 -- This project's own; docs/PRICES.md, "When the heap is full".
-use Rattle.std.specs.Prelude.{◌≡◌, ◌≢◌, ℕ, length, min, Result, Ok, Err, nat_le, if◌then◌else◌}
+use Rattle.std.specs.Prelude.{◌≡◌, ◌≢◌, ℕ, ◌+◌, length, min, Result, Ok, Err, nat_le, if◌then◌else◌}
 use Rattle.charged_heap.specs.Price.{charge_of, price_of}
 use Rattle.charged_heap.specs.Store.{Store, with_more}
 use Rattle.charged_heap.specs.declared.price.TheConstants.{GREATEST_TOLD}

@@ -5,6 +5,8 @@ use Rattle.std.specs.List.{All}
 use Rattle.charged_heap.specs.Store.{Store, IsAt, IsArray, IsPlain, IsScope}
 use Rattle.charged_heap.specs.Closed.{IsSoundValue}
 use Rattle.charged_heap.specs.declared.values.Value.{Value}
+use Rattle.js_syntax.specs.declared.kind.Kind.{Kind}
+use Rattle.js_syntax.specs.declared.kind.Kind.TheVariants as kinds
 use Rattle.script_meaning.specs.declared.completion.Abrupt.{Abrupt}
 use Rattle.script_meaning.specs.declared.completion.Abrupt.TheVariants as abrupt
 use Rattle.script_meaning.specs.declared.completion.Ended.{Ended}
@@ -18,6 +20,13 @@ use Rattle.script_steps.specs.declared.frame.Frame.{Frame}
 use Rattle.script_steps.specs.declared.frame.Frame.TheVariants as frame
 use Rattle.script_steps.specs.declared.frame.Step.{Step}
 use Rattle.script_steps.specs.declared.frame.Step.TheVariants as step
+
+-- ---- forms
+
+-- a form of that kind is there
+abbrev pub IsThere : Kind → Type 0
+IsThere kinds.Absent = ⊥
+IsThere _ = Unit {0}
 
 -- ---- ends
 

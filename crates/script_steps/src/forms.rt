@@ -4,6 +4,7 @@ ghost use Rattle.std.specs.Option.{option_copied};
 ghost use Rattle.script_trees.specs.Tree.{tree_of, absent, kid, kid_count};
 ghost use Rattle.script_trees.specs.Declarations.{declarations};
 ghost use Rattle.script_meaning.specs.Places.{form_at, script_at};
+ghost use Rattle.script_steps.specs.Sound.{IsThere};
 
 use ivm_text::{NoMemory, Units};
 use item_list::Items;
@@ -20,9 +21,10 @@ fn script_with(scripts: &Scripts, script: u32, node: u32) -> Option<&Script>
     if node < found.len() { Some(found) } else { None }
 }
 
-/// The kind of the form.
+/// The kind of the form, which knows its number where it is there.
 pub(crate) fn kind_at(scripts: &Scripts, script: u32, node: u32) -> Kind
-    ensures { result ≡ ((form_at scripts.now script node).head).kind }
+    ensures kind { result ≡ ((form_at scripts.now script node).head).kind }
+    ensures itself { IsThere result → ((form_at scripts.now script node).head).number_of_node ≡ node }
 {
     match script_with(scripts, script, node) {
         Some(found) => script_trees::kind(found, node),

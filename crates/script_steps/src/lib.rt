@@ -1,6 +1,9 @@
 //! The steps of each form, which evaluate no node themselves.
 #![tactic(auto)]
 
+mod ends;
+mod forms;
 mod frame;
+mod operators;
 
 pub use frame::{Frame, Inner, Step};
