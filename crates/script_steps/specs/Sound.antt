@@ -41,7 +41,7 @@ IsSoundPlace s (place.Member base k) = IsSoundValue s base × IsSoundKey s k
 abbrev pub IsSoundEnded : Store → Ended → Type 0
 IsSoundEnded s ended.Empty = Unit {0}
 IsSoundEnded s (ended.Value v) = IsSoundValue s v
-IsSoundEnded s (ended.Place where) = IsSoundPlace s where
+IsSoundEnded s (ended.Place target) = IsSoundPlace s target
 IsSoundEnded s (ended.Member function receiver) = IsSoundValue s function × IsSoundValue s receiver
 
 abbrev pub IsSoundAbrupt : Store → Abrupt → Type 0
@@ -84,9 +84,9 @@ IsSoundFrame s frame.Void = Unit {0}
 IsSoundFrame s (frame.Condition good bad site) = IsSoundSite s site
 IsSoundFrame s (frame.Logical operator right site) = IsSoundSite s site
 IsSoundFrame s (frame.AssignTarget right site) = IsSoundSite s site
-IsSoundFrame s (frame.AssignValue where site) = IsSoundPlace s where × IsSoundSite s site
+IsSoundFrame s (frame.AssignValue target site) = IsSoundPlace s target × IsSoundSite s site
 IsSoundFrame s (frame.UpdateTarget operator right site) = IsSoundSite s site
-IsSoundFrame s (frame.UpdateValue operator where old site) = IsSoundPlace s where × IsSoundValue s old × IsSoundSite s site
+IsSoundFrame s (frame.UpdateValue operator target old site) = IsSoundPlace s target × IsSoundValue s old × IsSoundSite s site
 IsSoundFrame s (frame.StepTarget operator before site) = IsSoundSite s site
 IsSoundFrame s (frame.Member role node script) = Unit {0}
 IsSoundFrame s (frame.IndexObject role n site) = IsSoundSite s site
