@@ -68,10 +68,10 @@ pub record IsSoundSite (s : Store) (site : Site) : Type 0 where
 
 -- a call that waits for an argument has a function, a receiver and the arguments before it
 pub record IsSoundCall (s : Store) (function receiver : Value) (values : List Value) (site : Site) : Type 0 where
-  pub function : IsSoundValue s function
-  pub receiver : IsSoundValue s receiver
-  pub values : All (IsSoundValue s) values
-  pub site : IsSoundSite s site
+  pub called : IsSoundValue s function
+  pub given : IsSoundValue s receiver
+  pub before : All (IsSoundValue s) values
+  pub at : IsSoundSite s site
 
 abbrev pub IsSoundFrame : Store → Frame → Type 0
 IsSoundFrame s frame.Pass = Unit {0}

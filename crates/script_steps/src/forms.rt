@@ -1,5 +1,5 @@
 //! What stands at a node of a script by numbers; nothing where there is no such node.
-ghost use Rattle.std.specs.Prelude.{◌≡◌, ◌<◌, length, IfOk, MatchOption};
+ghost use Rattle.std.specs.Prelude.{◌≡◌, ◌<◌, [], length, IfOk, MatchOption};
 ghost use Rattle.std.specs.Option.{option_copied};
 ghost use Rattle.script_trees.specs.Tree.{tree_of, absent, kid, kid_count};
 ghost use Rattle.script_trees.specs.Declarations.{declarations};
@@ -12,13 +12,33 @@ use js_syntax::{Kind, Script, Scripts};
 use script_trees::Declarations;
 use std::alloc::Global;
 
+/// The nodes of a script; none where there is no such script.
+#[tactic(auto, using(crate::proofs::FormLemmas::no_script, crate::proofs::FormLemmas::a_script))]
+fn script_at(scripts: &Scripts, script: u32) -> Option<&Script>
+    ensures { MatchOption result (script_at scripts.now script ≡ []) (λ found. script_at scripts.now script ≡ found.now) }
+{
+    match scripts.get(script) {
+        Some(checked) => Some(checked.script()),
+        None => None,
+    }
+}
+
 /// The script with this number, where it has the node.
+#[tactic(auto, using(crate::proofs::FormLemmas::form_there, crate::proofs::FormLemmas::form_missing))]
 fn script_with(scripts: &Scripts, script: u32, node: u32) -> Option<&Script>
-    ensures there { MatchOption result (form_at scripts.now script node ≡ absent) (λ found. (found.now ≡ script_at scripts.now script) × (node < length found.now)) }
+    ensures there { MatchOption result (form_at scripts.now script node ≡ absent) (λ found. (script_at scripts.now script ≡ found.now) × (node < length found.now)) }
     ensures form { MatchOption result (form_at scripts.now script node ≡ absent) (λ found. form_at scripts.now script node ≡ tree_of found.now node) }
 {
-    let found = scripts.get(script)?.script();
-    if node < found.len() { Some(found) } else { None }
+    match script_at(scripts, script) {
+        Some(found) => {
+            if node < found.len() {
+                Some(found)
+            } else {
+                None
+            }
+        }
+        None => None,
+    }
 }
 
 /// The kind of the form, which knows its number where it is there.
@@ -33,14 +53,19 @@ pub(crate) fn kind_at(scripts: &Scripts, script: u32, node: u32) -> Kind
 }
 
 /// The number of a part, counted from 0; one of no node where there is no such part.
+#[tactic(auto, using(crate::proofs::FormLemmas::form_there, crate::proofs::FormLemmas::form_missing, crate::proofs::FormLemmas::kid_missing))]
 pub(crate) fn kid_at(scripts: &Scripts, script: u32, node: u32, place: u32) -> u32
     ensures { form_at scripts.now script result ≡ kid place ((form_at scripts.now script node).kids) }
 {
     match script_with(scripts, script, node) {
-        Some(found) if place < script_trees::kid_count(found, node) => {
-            script_trees::kid(found, node, place)
+        Some(found) => {
+            if place < script_trees::kid_count(found, node) {
+                script_trees::kid(found, node, place)
+            } else {
+                found.len()
+            }
         }
-        _ => u32::MAX,
+        None => node,
     }
 }
 
