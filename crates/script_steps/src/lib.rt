@@ -5,5 +5,6 @@ mod ends;
 mod forms;
 mod frame;
 mod operators;
+mod statements;
 
 pub use frame::{Frame, Inner, Step};

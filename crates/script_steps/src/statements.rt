@@ -1,0 +1,124 @@
+//! Statements: where they begin and how they go on.
+ghost use Rattle.std.specs.Prelude.{◌≡◌, ◌≢◌, ◌≤◌, suc, Option, Ok, Err, None, IfSome, drop, length, slice_index_or, [], if◌then◌else◌};
+ghost use Rattle.charged_heap.specs.Closed.{IsClosed, IsSoundValue};
+ghost use Rattle.charged_heap.specs.Growth.{Grows};
+ghost use Rattle.charged_heap.specs.Store.{Store};
+ghost use Rattle.script_trees.specs.Tree.{kids_from};
+ghost use Rattle.script_meaning.specs.Statements.{list_rule, block_rule, declare_rule, if_rule, return_rule, latest, ended_with, or_undefined};
+ghost use Rattle.script_meaning.specs.Places.{form_at};
+ghost use Rattle.script_steps.specs.After.{after, Steps, Waits};
+ghost use Rattle.script_steps.specs.Sound.{IsSoundSite, IsSoundStep};
+
+use crate::forms::{kid_at, kid_count_at, kind_at};
+use crate::{Frame, Step};
+use charged_heap::{Heap, Value};
+use js_ops::truthy;
+use js_syntax::{Kind, Scripts};
+use script_meaning::{Abrupt, Ended, Site};
+
+// ---- values of statements
+
+/// The later value, where there is one.
+pub(crate) fn latest(value: Option<Value>, last: Option<Value>) -> Option<Value>
+    ensures { result ≡ latest value last }
+{
+    match value {
+        Some(value) => Some(value),
+        None => last,
+    }
+}
+
+/// A statement that has a value, or none.
+pub(crate) fn ended_with(value: Option<Value>) -> Ended
+    ensures { result ≡ ended_with value }
+{
+    match value {
+        Some(value) => Ended::Value(value),
+        None => Ended::Empty,
+    }
+}
+
+/// A value, and undefined where there is none.
+pub(crate) fn or_undefined(value: Option<Value>) -> Option<Value>
+    ensures { result ≡ or_undefined value }
+{
+    Some(value.unwrap_or(Value::Undefined))
+}
+
+// ---- lists
+
+/// The statements of a list from a place on, where the last value so far is this one.
+#[tactic(auto, unfolding(crate::specs::After::after, script_meaning::specs::Statements::list_rule), using(script_trees::proofs::PartLemmas::parts_from))]
+pub(crate) fn list_from(
+    scripts: &Scripts,
+    node: u32,
+    place: u32,
+    last: Option<Value>,
+    site: Site,
+) -> Step
+    ensures step { Waits scripts.now result (λ at s. list_rule at (kids_from place ((form_at scripts.now site.script node).kids)) site last s) }
+    ensures sound { (s : Store) → IsSoundSite s site → IfSome last (IsSoundValue s) → IsSoundStep s result }
+{
+    if place < kid_count_at(scripts, site.script, node) {
+        let statement = kid_at(scripts, site.script, node, place);
+        let waiting = Frame::List {
+            node,
+            place,
+            last,
+            site,
+        };
+        Step::statement(waiting, statement, site)
+    } else {
+        Step::Ended(Ok(ended_with(last)))
+    }
+}
+
+// ---- choices and ends
+
+/// Begins `if`.
+#[tactic(auto, unfolding(crate::specs::After::after, script_meaning::specs::Statements::if_rule))]
+pub(crate) fn begin_if(scripts: &Scripts, node: u32, site: Site) -> Step
+    ensures step { Waits scripts.now result (λ at s. if_rule at ((form_at scripts.now site.script node).kids) site s) }
+    ensures sound { (s : Store) → IsSoundSite s site → IsSoundStep s result }
+{
+    let condition = kid_at(scripts, site.script, node, 0);
+    let good = kid_at(scripts, site.script, node, 1);
+    let bad = kid_at(scripts, site.script, node, 2);
+    Step::value(Frame::If { good, bad, site }, condition, site)
+}
+
+/// Goes on with the condition of an `if`.
+#[tactic(auto, unfolding(crate::specs::After::after))]
+pub(crate) fn if_chosen(
+    scripts: &Scripts,
+    heap: &Heap,
+    good: u32,
+    bad: u32,
+    site: Site,
+    condition: Value,
+) -> Step
+    requires { IsSoundValue heap.now condition }
+    ensures step { Steps scripts.now result heap.now heap.now (λ at s. after at scripts.now (Frame.If good bad site) (Ok (Ended.Value condition), s)) }
+    ensures sound { IsSoundSite heap.now site → IsSoundStep heap.now result }
+{
+    if truthy(heap, condition) {
+        return Step::statement(Frame::Filled, good, site);
+    }
+    match kind_at(scripts, site.script, bad) {
+        Kind::Absent => Step::Ended(Ok(Ended::Value(Value::Undefined))),
+        _ => Step::statement(Frame::Filled, bad, site),
+    }
+}
+
+/// Begins `return`.
+#[tactic(auto, unfolding(crate::specs::After::after, script_meaning::specs::Statements::return_rule))]
+pub(crate) fn begin_return(scripts: &Scripts, node: u32, site: Site) -> Step
+    ensures step { Waits scripts.now result (λ at s. return_rule at ((form_at scripts.now site.script node).kids) site s) }
+    ensures sound { (s : Store) → IsSoundSite s site → IsSoundStep s result }
+{
+    let value = kid_at(scripts, site.script, node, 0);
+    match kind_at(scripts, site.script, value) {
+        Kind::Absent => Step::Ended(Err(Abrupt::Return(Value::Undefined))),
+        _ => Step::value(Frame::Return, value, site),
+    }
+}
