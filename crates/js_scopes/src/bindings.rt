@@ -1,0 +1,67 @@
+//! The bindings of a scope.
+ghost use Rattle.std.specs.Prelude.{◌≡◌, ◌<◌, length, IfSome, OnOk, OnErr};
+ghost use Rattle.std.specs.List.{All};
+ghost use Rattle.charged_heap.specs.Closed.{IsSoundBinding};
+ghost use Rattle.charged_heap.specs.Store.{Store};
+ghost use Rattle.js_scopes.specs.Bindings.{bindings_of, parent_of, place_of, with_new};
+
+use charged_heap::{Binding, Bindings, Item};
+use item_list::CloneWhole;
+use ivm_text::{NoMemory, Units};
+use std::alloc::Global;
+
+/// The place of the first binding with a name.
+pub(crate) fn place_of(bindings: &Bindings, name: &Units) -> Option<u32>
+    ensures place { result ≡ place_of bindings.now name.now }
+    ensures within { IfSome result (λ place. place < length bindings.now) }
+{
+    let place = bindings.as_slice().iter().position(|binding| binding.name == *name)?;
+    Some(place as u32)
+}
+
+/// The place of a name in an item; items that are no scopes have no bindings.
+pub(crate) fn place_in(item: &Item, name: &Units) -> Option<u32>
+    ensures place { result ≡ place_of (bindings_of item.now) name.now }
+    ensures within { IfSome result (λ place. place < length (bindings_of item.now)) }
+{
+    match item {
+        Item::Scope { bindings, .. } => place_of(bindings, name),
+        _ => None,
+    }
+}
+
+/// The number of the scope around an item.
+pub(crate) fn parent_of(item: &Item) -> Option<u32>
+    ensures { result ≡ parent_of item.now }
+{
+    match item {
+        Item::Scope { parent, .. } => *parent,
+        _ => None,
+    }
+}
+
+/// Adds a binding without a value behind the others, where none of them has the name; else the first
+/// one stays as it is. It is for scopes that are still to be made. Only want of memory refuses it.
+pub fn add_binding(
+    alloc: Global,
+    bindings: &mut Bindings,
+    name: &Units,
+    constant: bool,
+) -> Result<(), NoMemory>
+    ensures ok { OnOk result (bindings.new ≡ with_new bindings.old name.now constant) }
+    ensures err { OnErr result (bindings.new ≡ bindings.old) }
+
+    // What the bindings name is as sound as before, in whatever heap the scope will be made.
+    ensures sound { (s : Store) → All (IsSoundBinding s) bindings.old → All (IsSoundBinding s) bindings.new }
+{
+    if place_of(bindings, name).is_some() {
+        return Ok(());
+    }
+    let binding = Binding {
+        name: name.clone_whole(alloc)?,
+        constant,
+        value: None,
+    };
+    bindings.push(binding)?;
+    Ok(())
+}
