@@ -1,5 +1,5 @@
 -- The count of scopes ends no walk outwards in a closed store.
-use Rattle.std.proofs.Common.{◌≡◌, ℕ, zero, suc, ◌<◌, List, Option, Some, None, refl, sym, subst, arith}
+use Rattle.std.proofs.Common.{◌≡◌, ℕ, zero, suc, ◌<◌, ◌∙◌, List, Option, Some, None, refl, sym, ap, subst, arith}
 use Rattle.std.specs.Prelude.{IfSome}
 use Rattle.charged_heap.specs.Store.{Store, IsAt, IsScope, item_at}
 use Rattle.charged_heap.specs.Closed.{IsClosed, IsSound, IsParentOf}
@@ -62,3 +62,34 @@ goes_out : (s : Store) (name : List ℕ) (n : ℕ) (parent : Option ℕ)
     → here_or_outwards n None parent (binding_of s name) ≡ outwards_from s name parent
 goes_out s name n (Some p) = refl
 goes_out s name n None = refl
+
+-- the name isn't bound there: the walk goes on from the parent
+pub step_out : (s : Store) (name : List ℕ) (n : ℕ) → IsClosed s → IsAt IsScope s n → place_of (bindings_of (item_at s n)) name ≡ None
+    → outwards_from s name (parent_of (item_at s n)) ≡ binding_of s name n
+step_out s name n closed at none =
+    sym ((walks_outwards s name closed).from_each n at
+    ∙ ap (λ here. here_or_outwards n here (parent_of (item_at s n)) (binding_of s name)) none
+    ∙ goes_out s name n (parent_of (item_at s n)))
+
+-- it is bound there
+pub found_here : (s : Store) (name : List ℕ) (n place : ℕ) → IsClosed s → IsAt IsScope s n → place_of (bindings_of (item_at s n)) name ≡ Some place
+    → binding_of s name n ≡ Some (record { scope = n; place = place })
+found_here s name n place closed at some =
+    (walks_outwards s name closed).from_each n at
+    ∙ ap (λ here. here_or_outwards n here (parent_of (item_at s n)) (binding_of s name)) some
+
+scope_of : (s : Store) (n : ℕ) (parent : Option ℕ) → IfSome parent (IsParentOf s n) → IfSome parent (IsAt IsScope s)
+scope_of s n (Some p) sound = sound.scope
+scope_of s n None sound = tt
+
+pub parent_there : (s : Store) (n : ℕ) → IsClosed s → IsAt IsScope s n → IfSome (parent_of (item_at s n)) (IsAt IsScope s)
+parent_there s n closed at =
+    scope_of s n (parent_of (item_at s n)) (parent_sound s n (item_at s n) (closed.sound n at.there))
+
+below_of : (s : Store) (n : ℕ) (parent : Option ℕ) → IfSome parent (IsParentOf s n) → numbers_left parent < suc n
+below_of s n (Some p) sound = omega (arith, sound.below)
+below_of s n None sound = omega arith
+
+pub parent_smaller : (s : Store) (n : ℕ) → IsClosed s → IsAt IsScope s n → numbers_left (parent_of (item_at s n)) < suc n
+parent_smaller s n closed at =
+    below_of s n (parent_of (item_at s n)) (parent_sound s n (item_at s n) (closed.sound n at.there))

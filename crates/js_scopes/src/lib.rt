@@ -18,6 +18,6 @@ pub use bindings::add_binding;
 pub use charged_heap::{Bindings, Fail};
 pub use clashes::{is_clash, refuse_clash};
 pub use fault::NameFault;
-pub use lookup::{BindingPlace, Lookup, lookup};
+pub use lookup::{BindingPlace, Lookup, look_up};
 pub use names::{assign_name, read_name, type_of_name};
 pub use scopes::{initialise, make_scope};

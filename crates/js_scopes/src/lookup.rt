@@ -37,10 +37,10 @@ fn binding_of(heap: &Heap, name: &Units, scope: u32) -> Option<BindingPlace>
     ensures there { IfSome result (IsBindingAt heap.now) }
 {
     let mut next = Some(scope);
-    while let Some(scope) = next {
-        let item = heap.get(scope);
+    while let Some(here) = next {
+        let item = heap.get(here);
         if let Some(place) = place_in(item, name) {
-            return Some(BindingPlace { scope, place });
+            return Some(BindingPlace { scope: here, place });
         }
         next = parent_of(item);
     }
@@ -63,7 +63,7 @@ fn builtin_of(global: u32, name: &Units) -> Option<Value>
 /// object: in the innermost scope that has it, else among the own properties of the global object, else
 /// among the built-in names. It takes no memory.
 #[tactic(auto, unfolding(crate::specs::Lookup::lookup))]
-pub fn lookup(heap: &Heap, name: &Units, scope: u32, global: u32) -> Lookup
+pub fn look_up(heap: &Heap, name: &Units, scope: u32, global: u32) -> Lookup
     requires closed { IsClosed heap.now }
     requires scope { IsAt IsScope heap.now scope }
     requires global { IsAt IsPlain heap.now global }

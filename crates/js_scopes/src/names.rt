@@ -10,7 +10,7 @@ ghost use Rattle.js_scopes.specs.Lookup.{lookup, IsBindingAt, IsFound};
 ghost use Rattle.js_scopes.specs.Names.{or_dead_zone, value_found, read_as, name_outcome, typed_as, typeof_outcome, assigned_binding, assigned_found, assign_outcome};
 
 use crate::fault::refuse;
-use crate::{BindingPlace, Lookup, NameFault, lookup};
+use crate::{BindingPlace, Lookup, NameFault, look_up};
 use charged_heap::{Binding, Fail, Heap, Item, Value};
 use ivm_text::Units;
 use js_ops::{UnaryOperator, make_text, unary};
@@ -58,7 +58,7 @@ fn value_of(heap: &Heap, name: &Units, scope: u32, global: u32) -> Result<Value,
     ensures value { result ≡ value_found heap.now (lookup heap.now scope global name.now) }
     ensures sound { IfOk result (IsSoundValue heap.now) }
 {
-    let found = lookup(heap, name, scope, global);
+    let found = look_up(heap, name, scope, global);
     value_found(heap, global, name, found)
 }
 
@@ -235,6 +235,6 @@ pub fn assign_name(
     ensures closed { IsClosed heap.new }
     ensures sound { IsSoundResult heap.new result }
 {
-    let found = lookup(heap, name, scope, global);
+    let found = look_up(heap, name, scope, global);
     assign_found(alloc, heap, found, global, name, value)
 }
