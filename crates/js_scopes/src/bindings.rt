@@ -1,12 +1,12 @@
 //! The bindings of a scope.
-ghost use Rattle.std.specs.Prelude.{◌≡◌, ◌<◌, length, IfSome, OnOk, OnErr};
+ghost use Rattle.std.specs.Prelude.{◌≡◌, ◌<◌, length, IfOk, IfSome, OnOk, OnErr};
 ghost use Rattle.std.specs.List.{All};
 ghost use Rattle.charged_heap.specs.Closed.{IsSoundBinding};
 ghost use Rattle.charged_heap.specs.Store.{Store};
 ghost use Rattle.js_scopes.specs.Bindings.{bindings_of, parent_of, place_of, with_new};
 
 use charged_heap::{Binding, Bindings, Item};
-use item_list::CloneWhole;
+use item_list::{CloneWhole, Items};
 use ivm_text::{NoMemory, Units};
 use std::alloc::Global;
 
@@ -37,6 +37,38 @@ pub(crate) fn parent_of(item: &Item) -> Option<u32>
     match item {
         Item::Scope { parent, .. } => *parent,
         _ => None,
+    }
+}
+
+/// A copy of a binding, with its value.
+fn copy_binding(alloc: Global, binding: &Binding) -> Result<Binding, NoMemory>
+    ensures { IfOk result (λ copy. copy ≡ binding.now) }
+{
+    Ok(Binding {
+        name: binding.name.clone_whole(alloc)?,
+        constant: binding.constant,
+        value: binding.value,
+    })
+}
+
+/// A copy of all bindings, in their order.
+fn copy_all(alloc: Global, bindings: &Bindings) -> Result<Bindings, NoMemory>
+    ensures { IfOk result (λ copy. copy ≡ bindings.now) }
+{
+    let mut copy = Items::new(alloc);
+    for binding in bindings.as_slice() {
+        copy.push(copy_binding(alloc, binding)?)?;
+    }
+    Ok(copy)
+}
+
+/// A copy of an item's bindings; of an item that is no scope, none. Only want of memory refuses it.
+pub(crate) fn copy_bindings(alloc: Global, item: &Item) -> Result<Bindings, NoMemory>
+    ensures { IfOk result (λ copy. copy ≡ bindings_of item.now) }
+{
+    match item {
+        Item::Scope { bindings, .. } => copy_all(alloc, bindings),
+        _ => Ok(Items::new(alloc)),
     }
 }
 

@@ -20,4 +20,4 @@ pub use clashes::{is_clash, refuse_clash};
 pub use fault::NameFault;
 pub use lookup::{BindingPlace, Lookup, look_up};
 pub use names::{assign_name, read_name, type_of_name};
-pub use scopes::{initialise, make_scope};
+pub use scopes::{copy_scope, initialise, make_scope};

@@ -4,9 +4,9 @@ ghost use Rattle.std.specs.List.{All};
 ghost use Rattle.charged_heap.specs.Closed.{IsClosed, IsSoundBinding, IsSoundValue};
 ghost use Rattle.charged_heap.specs.Growth.{Grows};
 ghost use Rattle.charged_heap.specs.Store.{IsAt, IsScope};
-ghost use Rattle.js_scopes.specs.Scopes.{scope_made, GivesScope, initialised};
+ghost use Rattle.js_scopes.specs.Scopes.{scope_made, scope_copied, GivesScope, initialised};
 
-use crate::bindings::place_in;
+use crate::bindings::{copy_bindings, parent_of, place_in};
 use charged_heap::{Bindings, Fail, Heap, Item, Names, Value};
 use ivm_text::Units;
 use std::alloc::Global;
@@ -37,6 +37,25 @@ pub fn make_scope(
         functions: Names::new(alloc),
     })?;
     Ok(number)
+}
+
+/// Makes a copy of a scope (ECMA-262, CreatePerIterationEnvironment): inside the same one, and with the
+/// same bindings and their values. It answers the copy's number, and is refused as `make_scope`.
+#[tactic(auto, unfolding(crate::specs::Scopes::scope_copied), using(crate::proofs::Walks::parent_there))]
+pub fn copy_scope(alloc: Global, heap: &mut Heap, scope: u32) -> Result<u32, Fail>
+    requires closed { IsClosed heap.old }
+    requires scope { IsAt IsScope heap.old scope }
+
+    ensures gives { GivesScope result heap.new (scope_copied scope heap.old) }
+
+    ensures grown { Grows heap.old heap.new }
+    ensures closed { IsClosed heap.new }
+    ensures scope { IfOk result (IsAt IsScope heap.new) }
+{
+    let item = heap.get(scope);
+    let parent = parent_of(item);
+    let bindings = copy_bindings(alloc, item).map_err(|_| Fail::NoMemory)?;
+    make_scope(alloc, heap, parent, bindings)
 }
 
 /// Gives the binding of a name in that very scope its first value (ECMA-262, InitializeBinding); a

@@ -5,10 +5,11 @@ use charged_heap::{Bindings, Fail as NameFail, Heap, Item, Props, Value};
 use item_list::Items;
 use ivm_text::{ErrorKind, Units};
 use js_scopes::{
-    add_binding, assign_name, initialise, is_clash, make_scope, read_name, refuse_clash,
+    add_binding, assign_name, copy_scope, initialise, is_clash, make_scope, read_name, refuse_clash,
     type_of_name,
 };
 use std::alloc::Global;
+use std::mem;
 use std::test::Fail;
 
 /// What is done with a name. The number 7 is assigned.
@@ -236,6 +237,26 @@ fn each_use_of_a_name_gives_its_answer_for_its_cells(rt: HostRuntime) -> Result<
             assert_eq!(rt; again, Ok(Value::Num(7)), "{action:?} {name:?}");
         }
     }
+    Ok(())
+}
+
+#[test]
+fn a_copy_of_a_scope_is_another_scope(rt: HostRuntime) -> Result<(), Fail> {
+    let mut world = make_world(rt.alloc())?;
+    needs(world.heap.is_closed())?;
+    needs(world.heap.is_scope(world.scope))?;
+    let before = world.heap.charged();
+    let copy = copy_scope(rt.alloc(), &mut world.heap, world.scope)?;
+    assert_eq!(rt; world.heap.charged(), u32::saturating_add(before, 4));
+    let scope = mem::replace(&mut world.scope, copy);
+    let near = Units::from_text(rt.alloc(), "near")?;
+    let first = used(rt.alloc(), &mut world, Use::Read, &near)?;
+    assert_eq!(rt; first, Ok(Value::Num(1)));
+    let assigned = used(rt.alloc(), &mut world, Use::Assign, &near)?;
+    assert_eq!(rt; assigned, Ok(Value::Num(7)));
+    world.scope = scope;
+    let kept = used(rt.alloc(), &mut world, Use::Read, &near)?;
+    assert_eq!(rt; kept, Ok(Value::Num(1)));
     Ok(())
 }
 
