@@ -10,13 +10,23 @@ use item_list::{CloneWhole, Items};
 use ivm_text::{NoMemory, Units};
 use std::alloc::Global;
 
+/// The place of the first binding with a name, in a slice.
+fn position_of(bindings: &[Binding], name: &Units) -> Option<usize>
+    ensures place { result ≡ place_of bindings.now name.now }
+    ensures within { IfSome result (λ place. place < length bindings.now) }
+{
+    bindings.iter().position(|binding| binding.name == *name)
+}
+
 /// The place of the first binding with a name.
 pub(crate) fn place_of(bindings: &Bindings, name: &Units) -> Option<u32>
     ensures place { result ≡ place_of bindings.now name.now }
     ensures within { IfSome result (λ place. place < length bindings.now) }
 {
-    let place = bindings.as_slice().iter().position(|binding| binding.name == *name)?;
-    Some(place as u32)
+    match position_of(bindings.as_slice(), name) {
+        Some(place) => Some(place as u32),
+        None => None,
+    }
 }
 
 /// The place of a name in an item; items that are no scopes have no bindings.

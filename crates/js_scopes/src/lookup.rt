@@ -62,7 +62,7 @@ fn builtin_of(global: u32, name: &Units) -> Option<Value>
 /// Where a name stands (ECMA-262, ResolveBinding), seen from a scope of a context with this global
 /// object: in the innermost scope that has it, else among the own properties of the global object, else
 /// among the built-in names. It takes no memory.
-#[tactic(auto, unfolding(crate::specs::Lookup::lookup))]
+#[tactic(auto, unfolding(crate::specs::Lookup::lookup), using(crate::proofs::Walks::walks_outwards))]
 pub fn look_up(heap: &Heap, name: &Units, scope: u32, global: u32) -> Lookup
     requires closed { IsClosed heap.now }
     requires scope { IsAt IsScope heap.now scope }

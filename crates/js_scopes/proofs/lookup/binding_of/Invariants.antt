@@ -5,11 +5,11 @@ use Rattle.js_scopes.specs.Lookup.{binding_of}
 use Rattle.js_scopes.proofs.Walks.{outwards_from, numbers_left}
 use Rattle.js_scopes.proofs.lookup.binding_of.Given as goal
 
-abbrev pub invariant-loop-here : goal.invariant-loop-here
-invariant-loop-here l = record {
+abbrev pub invariant-loop-next : goal.invariant-loop-next
+invariant-loop-next l = record {
   same : outwards_from l.heap l.name l.next ≡ binding_of l.heap l.name l.fn.scope;
   there : IfSome l.next (IsAt IsScope l.heap);
 }
 
-abbrev pub decreases-loop-here : goal.decreases-loop-here
-decreases-loop-here l = numbers_left l.next
+abbrev pub decreases-loop-next : goal.decreases-loop-next
+decreases-loop-next l = numbers_left l.next
