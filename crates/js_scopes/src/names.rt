@@ -1,5 +1,5 @@
 //! The use of names: reads, their types, and assignments.
-ghost use Rattle.std.specs.Prelude.{◌≡◌, Ok, IfOk, IsSome, codes};
+ghost use Rattle.std.specs.Prelude.{◌≡◌, Ok, IfOk, IsOk, IsSome, codes};
 ghost use Rattle.key_order.specs.Keys.{value_at};
 ghost use Rattle.charged_heap.specs.Closed.{IsClosed, IsSoundValue};
 ghost use Rattle.charged_heap.specs.Growth.{Grows};
@@ -83,6 +83,9 @@ pub fn read_name(
 
     ensures gives { Gives result heap.new (name_outcome name.now scope global heap.old) }
 
+    // A value asks for no memory.
+    ensures free { IsOk (name_outcome name.now scope global heap.old).0 → IsOk result }
+
     ensures grown { Grows heap.old heap.new }
     ensures closed { IsClosed heap.new }
     ensures sound { IsSoundResult heap.new result }
@@ -149,6 +152,7 @@ fn assign_bound(
     requires value { IsSoundValue heap.old value }
 
     ensures gives { Gives result heap.new (assigned_binding (binding_at (item_at heap.old at.scope) at.place).value (binding_at (item_at heap.old at.scope) at.place).constant at name.now value heap.old) }
+    ensures free { IsOk (assigned_binding (binding_at (item_at heap.old at.scope) at.place).value (binding_at (item_at heap.old at.scope) at.place).constant at name.now value heap.old).0 → IsOk result }
 
     ensures grown { Grows heap.old heap.new }
     ensures closed { IsClosed heap.old → IsClosed heap.new }
@@ -194,6 +198,7 @@ fn assign_found(
     requires value { IsSoundValue heap.old value }
 
     ensures gives { Gives result heap.new (assigned_found found global name.now value heap.old) }
+    ensures free { IsOk (assigned_found found global name.now value heap.old).0 → IsOk result }
 
     ensures grown { Grows heap.old heap.new }
     ensures closed { IsClosed heap.old → IsClosed heap.new }
@@ -230,6 +235,9 @@ pub fn assign_name(
     requires value { IsSoundValue heap.old value }
 
     ensures gives { Gives result heap.new (assign_outcome name.now value scope global heap.old) }
+
+    // An assignment that succeeds asks for no memory.
+    ensures free { IsOk (assign_outcome name.now value scope global heap.old).0 → IsOk result }
 
     ensures grown { Grows heap.old heap.new }
     ensures closed { IsClosed heap.new }
