@@ -1,10 +1,10 @@
 -- What a name reads in a closed store is a value that a script can hold.
-use Rattle.std.proofs.Common.{◌≡◌, ℕ, ◌<◌, List, [], ◌∷◌, Bool, true, false, Option, Some, None, Result, Ok, Err, length, refl, arith, subst, sym}
-use Rattle.std.specs.Prelude.{slice_index_or, IfSome, IfOk, codes, if◌then◌else◌}
+use Rattle.std.proofs.Common.{◌≡◌, ℕ, List, [], Bool, true, false, Option, Some, None, arith, subst}
+use Rattle.std.specs.Prelude.{IfSome, IfOk, codes, if◌then◌else◌}
 use Rattle.std.specs.List.{All}
 use Rattle.std.proofs.lemmas.Map.Entries.{All-lookup}
 use Rattle.key_order.specs.Keys.{is_key, value_at}
-use Rattle.charged_heap.specs.Store.{Store, IsAt, IsPlain, IsScope, item_at, kind_of, properties}
+use Rattle.charged_heap.specs.Store.{Store, IsAt, IsPlain, item_at, kind_of, properties}
 use Rattle.charged_heap.specs.Closed.{IsClosed, IsHeld, IsSound, IsSoundValue, IsSoundBinding}
 use Rattle.charged_heap.specs.declared.item.Item.{Item}
 use Rattle.charged_heap.specs.declared.item.Item.TheVariants as item
@@ -13,9 +13,8 @@ use Rattle.charged_heap.specs.declared.item.ItemKind.TheVariants as kind
 use Rattle.charged_heap.specs.declared.values.Value.{Value}
 use Rattle.charged_heap.specs.declared.values.Value.TheVariants as value
 use Rattle.js_scopes.specs.Bindings.{bindings_of, binding_at, new_binding}
-use Rattle.js_scopes.specs.Lookup.{builtin_of, IsBindingAt, IsFound}
+use Rattle.js_scopes.specs.Lookup.{builtin_of, IsFound}
 use Rattle.js_scopes.specs.Names.{or_dead_zone, value_found}
-use Rattle.js_scopes.specs.declared.fault.NameFault.{NameFault}
 use Rattle.js_scopes.specs.declared.lookup.Lookup.{Lookup}
 use Rattle.js_scopes.specs.declared.lookup.Lookup.TheVariants.{Bound, Property, Builtin, Nowhere}
 

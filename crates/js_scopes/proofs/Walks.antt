@@ -71,13 +71,6 @@ step_out s name n closed at none =
     ∙ ap (λ here. here_or_outwards n here (parent_of (item_at s n)) (binding_of s name)) none
     ∙ goes_out s name n (parent_of (item_at s n)))
 
--- it is bound there
-pub found_here : (s : Store) (name : List ℕ) (n place : ℕ) → IsClosed s → IsAt IsScope s n → place_of (bindings_of (item_at s n)) name ≡ Some place
-    → binding_of s name n ≡ Some (record { scope = n; place = place })
-found_here s name n place closed at some =
-    (walks_outwards s name closed).from_each n at
-    ∙ ap (λ here. here_or_outwards n here (parent_of (item_at s n)) (binding_of s name)) some
-
 scope_of : (s : Store) (n : ℕ) (parent : Option ℕ) → IfSome parent (IsParentOf s n) → IfSome parent (IsAt IsScope s)
 scope_of s n (Some p) sound = sound.scope
 scope_of s n None sound = tt
@@ -85,11 +78,3 @@ scope_of s n None sound = tt
 pub parent_there : (s : Store) (n : ℕ) → IsClosed s → IsAt IsScope s n → IfSome (parent_of (item_at s n)) (IsAt IsScope s)
 parent_there s n closed at =
     scope_of s n (parent_of (item_at s n)) (parent_sound s n (item_at s n) (closed.sound n at.there))
-
-below_of : (s : Store) (n : ℕ) (parent : Option ℕ) → IfSome parent (IsParentOf s n) → numbers_left parent < suc n
-below_of s n (Some p) sound = omega (arith, sound.below)
-below_of s n None sound = omega arith
-
-pub parent_smaller : (s : Store) (n : ℕ) → IsClosed s → IsAt IsScope s n → numbers_left (parent_of (item_at s n)) < suc n
-parent_smaller s n closed at =
-    below_of s n (parent_of (item_at s n)) (parent_sound s n (item_at s n) (closed.sound n at.there))

@@ -3,7 +3,7 @@ ghost use Rattle.std.specs.Prelude.{◌≡◌, ◌<◌, length, IfOk, IfSome, On
 ghost use Rattle.std.specs.List.{All};
 ghost use Rattle.charged_heap.specs.Closed.{IsSoundBinding};
 ghost use Rattle.charged_heap.specs.Store.{Store};
-ghost use Rattle.js_scopes.specs.Bindings.{bindings_of, parent_of, place_of, with_new};
+ghost use Rattle.js_scopes.specs.Bindings.{bindings_of, parent_of, place_of, with_new, AreDistinct};
 
 use charged_heap::{Binding, Bindings, Item};
 use item_list::{CloneWhole, Items};
@@ -93,6 +93,7 @@ pub fn add_binding(
     ensures ok { OnOk result (bindings.new ≡ with_new bindings.old name.now constant) }
     ensures err { OnErr result (bindings.new ≡ bindings.old) }
 
+    ensures distinct { AreDistinct bindings.old → AreDistinct bindings.new }
     // What the bindings name is as sound as before, in whatever heap the scope will be made.
     ensures sound { (s : Store) → All (IsSoundBinding s) bindings.old → All (IsSoundBinding s) bindings.new }
 {

@@ -2,7 +2,7 @@
 ghost use Rattle.std.specs.Prelude.{◌≡◌, IfSome};
 ghost use Rattle.charged_heap.specs.Closed.{IsClosed};
 ghost use Rattle.charged_heap.specs.Store.{IsAt, IsPlain, IsScope};
-ghost use Rattle.js_scopes.specs.Lookup.{binding_of, builtin_of, first_of, lookup, IsBindingAt, IsFound, WalksOutwards};
+ghost use Rattle.js_scopes.specs.Lookup.{binding_of, builtin_of, lookup, IsBindingAt, IsFound, WalksOutwards};
 
 use crate::bindings::{parent_of, place_in};
 use charged_heap::{Heap, Value};

@@ -7,7 +7,7 @@ ghost use Rattle.charged_heap.specs.Store.{IsAt, IsPlain, IsScope, item_at, prop
 ghost use Rattle.js_ops.specs.Outcome.{Gives, IsSoundResult, text_made};
 ghost use Rattle.js_scopes.specs.Bindings.{binding_at};
 ghost use Rattle.js_scopes.specs.Lookup.{lookup, IsBindingAt, IsFound};
-ghost use Rattle.js_scopes.specs.Names.{or_dead_zone, value_found, read_as, name_outcome, typed_as, typeof_outcome, assigned_binding, assigned_found, assign_outcome};
+ghost use Rattle.js_scopes.specs.Names.{or_dead_zone, value_found, name_outcome, typeof_outcome, assigned_binding, assigned_found, assign_outcome};
 
 use crate::fault::refuse;
 use crate::{BindingPlace, Lookup, NameFault, look_up};
