@@ -48,7 +48,7 @@ pub(crate) fn or_undefined(value: Option<Value>) -> Option<Value>
 // ---- lists
 
 /// The statements of a list from a place on, where the last value so far is this one.
-#[tactic(auto, unfolding(crate::specs::After::after, script_meaning::specs::Statements::list_rule), using(script_trees::proofs::PartLemmas::parts_from))]
+#[tactic(auto, unfolding(script_meaning::specs::Statements::list_rule), using(script_trees::proofs::PartLemmas::parts_from, crate::proofs::ListLemmas::lists))]
 pub(crate) fn list_from(
     scripts: &Scripts,
     node: u32,
