@@ -109,7 +109,12 @@ fn declarations_clash_with_the_record(rt: HostRuntime) -> Result<(), Fail> {
     }
     let thrown = refuse_clash(rt.alloc(), &mut world.heap, &made);
     let message = "made is already declared";
-    let holds = is_given(rt.alloc(), &world, thrown, Given::Throws(ErrorKind::SyntaxError, message))?;
+    let holds = is_given(
+        rt.alloc(),
+        &world,
+        thrown,
+        Given::Throws(ErrorKind::SyntaxError, message),
+    )?;
     assert!(rt; holds);
     Ok(())
 }

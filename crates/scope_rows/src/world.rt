@@ -65,7 +65,12 @@ fn object(alloc: Global, fields: &[(&str, i64)]) -> Result<Item, Fail> {
 fn bindings(alloc: Global, names: &[(&str, bool)]) -> Result<Bindings, Fail> {
     let mut bindings = Items::new(alloc);
     for (name, constant) in names {
-        add_binding(alloc, &mut bindings, &Units::from_text(alloc, name)?, *constant)?;
+        add_binding(
+            alloc,
+            &mut bindings,
+            &Units::from_text(alloc, name)?,
+            *constant,
+        )?;
     }
     Ok(bindings)
 }
@@ -74,7 +79,12 @@ fn bindings(alloc: Global, names: &[(&str, bool)]) -> Result<Bindings, Fail> {
 fn begin(alloc: Global, heap: &mut Heap, scope: u32, values: &[(&str, i64)]) -> Result<(), Fail> {
     for (name, number) in values {
         needs(heap.is_scope(scope))?;
-        initialise(heap, scope, &Units::from_text(alloc, name)?, Value::Num(*number));
+        initialise(
+            heap,
+            scope,
+            &Units::from_text(alloc, name)?,
+            Value::Num(*number),
+        );
     }
     Ok(())
 }
@@ -85,13 +95,24 @@ pub fn make_world(alloc: Global) -> Result<World, Fail> {
     let global = heap.add(object(alloc, &[("kept", 3), ("far", 4)])?)?;
     let outer = bindings(
         alloc,
-        &[("far", false), ("fixed", true), ("shaded", false), ("late", true), ("far", true)],
+        &[
+            ("far", false),
+            ("fixed", true),
+            ("shaded", false),
+            ("late", true),
+            ("far", true),
+        ],
     )?;
     let context = make_scope(alloc, &mut heap, None, outer)?;
     let inner = bindings(alloc, &[("near", false), ("shaded", false)])?;
     needs(heap.is_scope(context))?;
     let scope = make_scope(alloc, &mut heap, Some(context), inner)?;
-    begin(alloc, &mut heap, context, &[("far", 10), ("fixed", 20), ("shaded", 30), ("near", 5)])?;
+    begin(
+        alloc,
+        &mut heap,
+        context,
+        &[("far", 10), ("fixed", 20), ("shaded", 30), ("near", 5)],
+    )?;
     begin(alloc, &mut heap, scope, &[("near", 1), ("far", 2)])?;
     Ok(World {
         heap,
