@@ -1,2 +1,3 @@
 pub mod FormLemmas
 pub mod ListLemmas
+pub mod Growing

@@ -1,5 +1,6 @@
 -- A list of statements, and the names of a declaration, from a place on.
-use Rattle.std.proofs.Common.{◌≡◌, ℕ, suc, ◌<◌, ◌≤◌, List, [], ◌∷◌, Option, Some, None, length, refl, sym, ap, arith}
+use Rattle.std.specs.Prelude.{drop, slice_get}
+use Rattle.std.proofs.Common.{◌≡◌, ℕ, zero, suc, ◌<◌, ◌≤◌, List, [], ◌∷◌, Option, Some, None, length, refl, sym, ap, arith}
 use Rattle.charged_heap.specs.declared.values.Value.{Value}
 use Rattle.js_syntax.specs.Tree.{Head, Trees, nothing, tree}
 use Rattle.script_trees.specs.Tree.{Tree, kid, kid_count, kids_from}
@@ -30,3 +31,13 @@ list_goes_on at scripts node place last site statement s within e =
       (kids_from-at place ((form_at scripts site.script node).kids) within))
 
 pub ruleset lists = (list_goes_on)
+
+-- ---- declarations
+
+-- the names from a place on are that name and those behind it
+pub names_at_place : (names : List (List ℕ)) (i : ℕ) (name : List ℕ) → slice_get names i ≡ Some name → drop i names ≡ name ∷ drop (suc i) names
+names_at_place [] i name some = absurd (cc)
+names_at_place (first ∷ rest) zero name some = let e : first ≡ name = cc in rw e refl
+names_at_place (first ∷ rest) (suc i) name some = names_at_place rest i name some
+
+pub ruleset declared = (names_at_place)

@@ -9,12 +9,14 @@ ghost use Rattle.script_meaning.specs.Places.{form_at};
 ghost use Rattle.script_steps.specs.After.{after, Steps, Waits};
 ghost use Rattle.script_steps.specs.Sound.{IsSoundSite, IsSoundStep};
 
-use crate::forms::{kid_at, kid_count_at, kind_at};
+use crate::ends::abrupt_of;
+use crate::forms::{declarations_at, kid_at, kid_count_at, kind_at, names_at};
 use crate::{Frame, Step};
 use charged_heap::{Heap, Value};
 use js_ops::truthy;
 use js_syntax::{Kind, Scripts};
 use script_meaning::{Abrupt, Ended, Site};
+use std::alloc::Global;
 
 // ---- values of statements
 
@@ -71,6 +73,103 @@ pub(crate) fn list_from(
     } else {
         Step::Ended(Ok(ended_with(last)))
     }
+}
+
+/// Begins a block: where it declares something it has a scope of its own.
+#[tactic(auto, unfolding(script_meaning::specs::Statements::block_rule), using(crate::proofs::Growing::growing))]
+pub(crate) fn begin_block(
+    alloc: Global,
+    scripts: &Scripts,
+    heap: &mut Heap,
+    node: u32,
+    site: Site,
+) -> Step
+    requires { IsSoundSite heap.old site }
+    ensures step { Steps scripts.now result heap.old heap.new (λ at s. block_rule at ((form_at scripts.now site.script node).kids) site s) }
+    ensures grown { Grows heap.old heap.new }
+    ensures closed { IsClosed heap.old → IsClosed heap.new }
+    ensures sound { IsSoundStep heap.new result }
+{
+    let declared = match declarations_at(alloc, scripts, site.script, node) {
+        Ok(declared) => declared,
+        Err(_) => return Step::Ended(Err(Abrupt::NoMemory)),
+    };
+    if declared.len() == 0 {
+        return list_from(scripts, node, 0, None, site);
+    }
+    let Site {
+        script,
+        scope,
+        global,
+        receiver,
+    } = site;
+    match script_scopes::block_scope(alloc, heap, script, global, scope, &declared) {
+        Ok(scope) => {
+            let inside = Site {
+                script,
+                scope,
+                global,
+                receiver,
+            };
+            list_from(scripts, node, 0, None, inside)
+        }
+        Err(fail) => Step::Ended(Err(abrupt_of(fail))),
+    }
+}
+
+// ---- declarations
+
+/// The names of a `let` or `const` from a place on. A name without an initialiser gets undefined at once.
+#[tactic(auto, unfolding(script_meaning::specs::Statements::declare_rule), using(crate::proofs::Growing::growing, crate::proofs::ListLemmas::declared))]
+pub(crate) fn declare_from(
+    scripts: &Scripts,
+    heap: &mut Heap,
+    node: u32,
+    place: u32,
+    site: Site,
+) -> Step
+    requires { IsSoundSite heap.old site }
+    ensures step { Steps scripts.now result heap.old heap.new (λ at s. declare_rule at (drop place ((form_at scripts.now site.script node).head).names) (kids_from place ((form_at scripts.now site.script node).kids)) site s) }
+    ensures grown { Grows heap.old heap.new }
+    ensures closed { IsClosed heap.old → IsClosed heap.new }
+    ensures sound { IsSoundStep heap.new result }
+{
+    let names = names_at(scripts, site.script, node);
+    let count = kid_count_at(scripts, site.script, node);
+    let mut place = place;
+    while (place as usize) < names.len() && place < count {
+        let initialiser = kid_at(scripts, site.script, node, place);
+        if kind_at(scripts, site.script, initialiser) != Kind::Absent {
+            return Step::value(Frame::Declarator { node, place, site }, initialiser, site);
+        }
+        js_scopes::initialise(heap, site.scope, &names[place as usize], Value::Undefined);
+        place += 1;
+    }
+    Step::Ended(Ok(Ended::Empty))
+}
+
+/// Gives the name at the place its value, and goes on with the names behind it.
+#[tactic(auto, unfolding(crate::specs::After::after), using(crate::proofs::Growing::growing, crate::proofs::ListLemmas::declared))]
+pub(crate) fn declarator(
+    scripts: &Scripts,
+    heap: &mut Heap,
+    node: u32,
+    place: u32,
+    site: Site,
+    value: Value,
+) -> Step
+    requires site { IsSoundSite heap.old site }
+    requires value { IsSoundValue heap.old value }
+    ensures step { Steps scripts.now result heap.old heap.new (λ at s. after at scripts.now (Frame.Declarator node place site) (Ok (Ended.Value value), s)) }
+    ensures grown { Grows heap.old heap.new }
+    ensures closed { IsClosed heap.old → IsClosed heap.new }
+    ensures sound { IsSoundStep heap.new result }
+{
+    match names_at(scripts, site.script, node).get(place as usize) {
+        Some(name) => js_scopes::initialise(heap, site.scope, name, value),
+        None => return Step::Ended(Ok(Ended::Empty)),
+    }
+    declare_from(scripts, heap, node, place + 1, site)
 }
 
 // ---- choices and ends
