@@ -1,9 +1,9 @@
-//! Tests of `js_ops` and `js_members` by tables: what operators and members give, and what they cost.
+//! Tests of `js_ops`, `js_members` and `js_scopes` by tables: what operators, members and names give and cost.
 //!
 //! Contracts see nothing here: it has tests alone.
 //! Rely on: each value, text and price was worked out by hand from docs/SCRIPTS.md and docs/PRICES.md.
-//! Over `js_ops`, `js_members` and `charged_heap`; under no crate.
-//! Begin with `src/rows.rt`, `src/pairs.rt` and `src/member_rows.rt`.
+//! Over `js_ops`, `js_members`, `js_scopes` and `charged_heap`; under no crate.
+//! Begin with `src/rows.rt`, `src/pairs.rt`, `src/member_rows.rt` and `src/scopes.rt`.
 #![tactic(auto)]
 
 #[cfg(test)]
@@ -18,5 +18,7 @@ mod operands;
 mod pairs;
 #[cfg(test)]
 mod rows;
+#[cfg(test)]
+mod scopes;
 #[cfg(test)]
 mod types;
