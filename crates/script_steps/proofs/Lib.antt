@@ -1,3 +1,4 @@
 pub mod FormLemmas
-pub mod ListLemmas
 pub mod Growing
+pub mod ListLemmas
+pub mod PlaceLemmas

@@ -1,9 +1,9 @@
 //! Statements: where they begin and how they go on.
-ghost use Rattle.std.specs.Prelude.{◌≡◌, ◌≢◌, ◌≤◌, suc, Option, Ok, Err, None, IfSome, drop, length, slice_index_or, [], if◌then◌else◌};
+ghost use Rattle.std.specs.Prelude.{◌≡◌, ◌↔◌, IsTrue, ◌≢◌, ◌≤◌, suc, Option, Ok, Err, None, IfSome, drop, length, slice_index_or, [], if◌then◌else◌};
 ghost use Rattle.charged_heap.specs.Closed.{IsClosed, IsSoundValue};
 ghost use Rattle.charged_heap.specs.Growth.{Grows};
 ghost use Rattle.charged_heap.specs.Store.{Store};
-ghost use Rattle.script_trees.specs.Tree.{kids_from};
+ghost use Rattle.script_trees.specs.Tree.{kid, kids_from};
 ghost use Rattle.script_meaning.specs.Statements.{list_rule, block_rule, declare_rule, if_rule, return_rule, latest, ended_with, or_undefined};
 ghost use Rattle.script_meaning.specs.Places.{form_at};
 ghost use Rattle.script_steps.specs.After.{after, Steps, Waits};
@@ -119,8 +119,16 @@ pub(crate) fn begin_block(
 
 // ---- declarations
 
+/// Whether there is a name at the place, and a part, and the part is left out.
+fn is_left_out(scripts: &Scripts, node: u32, place: u32, site: Site) -> bool
+    ensures { IsTrue result ↔ (((kid place ((form_at scripts.now site.script node).kids)).head).kind ≡ Kind.Absent) }
+{
+    let initialiser = kid_at(scripts, site.script, node, place);
+    kind_at(scripts, site.script, initialiser) == Kind::Absent
+}
+
 /// The names of a `let` or `const` from a place on. A name without an initialiser gets undefined at once.
-#[tactic(auto, unfolding(script_meaning::specs::Statements::declare_rule), using(crate::proofs::Growing::growing, crate::proofs::ListLemmas::declared))]
+#[tactic(auto, unfolding(crate::specs::After::after), using(crate::proofs::Growing::growing, crate::proofs::ListLemmas::declared))]
 pub(crate) fn declare_from(
     scripts: &Scripts,
     heap: &mut Heap,
@@ -134,18 +142,21 @@ pub(crate) fn declare_from(
     ensures closed { IsClosed heap.old → IsClosed heap.new }
     ensures sound { IsSoundStep heap.new result }
 {
-    let names = names_at(scripts, site.script, node);
-    let count = kid_count_at(scripts, site.script, node);
-    let mut place = place;
-    while (place as usize) < names.len() && place < count {
-        let initialiser = kid_at(scripts, site.script, node, place);
-        if kind_at(scripts, site.script, initialiser) != Kind::Absent {
-            return Step::value(Frame::Declarator { node, place, site }, initialiser, site);
-        }
-        js_scopes::initialise(heap, site.scope, &names[place as usize], Value::Undefined);
-        place += 1;
+    if place >= kid_count_at(scripts, site.script, node) {
+        return Step::Ended(Ok(Ended::Empty));
     }
-    Step::Ended(Ok(Ended::Empty))
+    match names_at(scripts, site.script, node).get(place as usize) {
+        None => Step::Ended(Ok(Ended::Empty)),
+        Some(name) => {
+            if is_left_out(scripts, node, place, site) {
+                js_scopes::initialise(heap, site.scope, name, Value::Undefined);
+                declare_from(scripts, heap, node, place + 1, site)
+            } else {
+                let initialiser = kid_at(scripts, site.script, node, place);
+                Step::value(Frame::Declarator { node, place, site }, initialiser, site)
+            }
+        }
+    }
 }
 
 /// Gives the name at the place its value, and goes on with the names behind it.
