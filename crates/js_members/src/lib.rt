@@ -18,6 +18,6 @@ pub use arrays::{pop, push};
 pub use charged_heap::Fail;
 pub use fault::MemberFault;
 pub use members::{read, write};
-pub use names::MemberName;
+pub use names::{MemberName, is_named};
 pub use reading::Reading;
 pub use target::Target;

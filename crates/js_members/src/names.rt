@@ -28,8 +28,8 @@ fn unit_at(key: &Units, place: usize) -> u16
     key.get(place).unwrap()
 }
 
-/// Whether a key has the units of an ASCII text.
-fn is_named(key: &Units, name: &[u8]) -> bool
+/// Whether a key or a name has the units of an ASCII text. It takes no memory.
+pub fn is_named(key: &Units, name: &[u8]) -> bool
     ensures { result ≡ is_key key.now name.now }
 {
     if key.len() != name.len() {

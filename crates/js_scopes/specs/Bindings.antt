@@ -1,6 +1,6 @@
 -- The bindings of a scope: by name, by place, and with one more.
 -- ECMA-262, Declarative Environment Records; docs/SCRIPTS.md, "Names and scopes".
-use Rattle.std.specs.Prelude.{ℕ, List, [], ◌∷◌, ◌++◌, Bool, false, Option, None, position, is_some, slice_index_or, if◌then◌else◌}
+use Rattle.std.specs.Prelude.{◌≡◌, ℕ, List, [], ◌∷◌, ◌++◌, Bool, false, Option, None, position, is_some, slice_index_or, if◌then◌else◌, AllPairs}
 use Rattle.key_order.specs.Keys.{is_key}
 use Rattle.charged_heap.specs.declared.item.Item.{Item}
 use Rattle.charged_heap.specs.declared.item.Item.TheVariants.{Scope}
@@ -42,3 +42,7 @@ binding_at scope place = slice_index_or (bindings_of scope) place (new_binding [
 abbrev pub with_new : List Binding → List ℕ → Bool → List Binding
 with_new bindings name constant =
     if is_some (place_of bindings name) then bindings else bindings ++ new_binding name constant ∷ []
+
+-- no two of the bindings have one name
+abbrev pub AreDistinct : List Binding → Type 0
+AreDistinct bindings = AllPairs (λ a b. is_key a.name b.name ≡ false) bindings

@@ -62,9 +62,9 @@ pub record IsBindingAt (s : Store) (at : BindingPlace) : Type 0 where
   pub scope : IsAt IsScope s at.scope
   pub within : at.place < length (bindings_of (item_at s at.scope))
 
--- the binding is there, or the global object has the name as a key
+-- the binding is there, or the global object has the property, or the name is a built-in one
 abbrev pub IsFound : Store → ℕ → List ℕ → Lookup → Type 0
 IsFound s global name (Bound at) = IsBindingAt s at
 IsFound s global name (Property v) = value_at (properties (item_at s global)) name ≡ Some v
-IsFound s global name (Builtin v) = Unit {0}
+IsFound s global name (Builtin v) = builtin_of global name ≡ Some v
 IsFound s global name Nowhere = Unit {0}

@@ -1,5 +1,5 @@
 -- How scopes are made, and how their names get their first values.
--- ECMA-262, NewDeclarativeEnvironment and InitializeBinding; docs/SCRIPTS.md, "Names and scopes". Cells: docs/PRICES.md, "Cells".
+-- ECMA-262, NewDeclarativeEnvironment, CreatePerIterationEnvironment and InitializeBinding; docs/SCRIPTS.md, "Names and scopes". Cells: docs/PRICES.md, "Cells".
 use Rattle.std.specs.Prelude.{◌≡◌, ◌≢◌, ℕ, ◌+◌, min, List, [], length, Option, Some, None, Result, Ok, Err, nat_le, if◌then◌else◌}
 use Rattle.charged_heap.specs.Price.{price_of, charge_of}
 use Rattle.charged_heap.specs.Store.{Store, item_at, with_more}
@@ -10,7 +10,7 @@ use Rattle.charged_heap.specs.declared.item.Item.{Item}
 use Rattle.charged_heap.specs.declared.item.Item.TheVariants.{Scope}
 use Rattle.charged_heap.specs.declared.values.Binding.{Binding}
 use Rattle.charged_heap.specs.declared.values.Value.{Value}
-use Rattle.js_scopes.specs.Bindings.{bindings_of, place_of}
+use Rattle.js_scopes.specs.Bindings.{bindings_of, parent_of, place_of}
 use Rattle.js_scopes.specs.Names.{with_bound_at}
 
 -- ---- making
@@ -33,6 +33,10 @@ scope_made parent bindings s =
 -- the result and the store are those of the meaning, unless no memory was found
 abbrev pub GivesScope : Result ℕ Fail → Store → ScopeOutcome → Type 0
 GivesScope result new meaning = result ≢ Err NoMemory → meaning ≡ (result, new)
+
+-- one more scope with the parent and the bindings that the scope with the number n has by then
+unfoldable pub scope_copied : ℕ → Store → ScopeOutcome
+scope_copied n s = scope_made (parent_of (item_at s n)) (bindings_of (item_at s n)) s
 
 -- ---- first values
 

@@ -1,0 +1,4 @@
+mod Bound
+mod Distinct
+mod Sound
+mod Walks
