@@ -2,10 +2,11 @@
 -- This project's own; docs/PRICES.md, "When the heap is full".
 use Rattle.std.specs.Prelude.{◌≡◌, ◌≢◌, ℕ, ◌+◌, length, min, Result, Ok, Err, nat_le, if◌then◌else◌}
 use Rattle.charged_heap.specs.Price.{charge_of, price_of}
+use Rattle.charged_heap.specs.Closed.{IsSoundValue}
 use Rattle.charged_heap.specs.Store.{Store, with_more}
 use Rattle.charged_heap.specs.declared.price.TheConstants.{GREATEST_TOLD}
 use Rattle.charged_heap.specs.declared.fault.Fail.{Fail}
-use Rattle.charged_heap.specs.declared.fault.Fail.TheVariants.{Over, NoMemory}
+use Rattle.charged_heap.specs.declared.fault.Fail.TheVariants.{Throw, Over, NoMemory}
 use Rattle.charged_heap.specs.declared.item.Item.{Item}
 
 -- what is given, what is thrown or a refusal, and the store after it
@@ -26,3 +27,8 @@ abbrev pub item_made : Item → Store → Ends ℕ
 item_made one s =
     if nat_le (charge_of s.items + price_of one) s.limit then (Ok (length s.items), with_more s one)
     else (Err (Over (charge_of s.items) (min (price_of one) GREATEST_TOLD) s.limit), s)
+
+-- what is thrown, if anything, is a value that the store has
+abbrev pub IsSoundFail : Store → Fail → Type 0
+IsSoundFail s (Throw v) = IsSoundValue s v
+IsSoundFail s _ = Unit {0}
