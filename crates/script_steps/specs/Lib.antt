@@ -1,3 +1,4 @@
 pub mod Ends
 pub mod After
 pub mod Sound
+pub mod Called

@@ -1,9 +1,13 @@
 //! The steps of each form, which evaluate no node themselves.
 #![tactic(auto)]
 
+mod builtins;
+mod calls;
 mod ends;
 mod forms;
 mod frame;
+mod functions;
+mod literals;
 mod operators;
 
 pub use frame::{Frame, Inner, Step};
