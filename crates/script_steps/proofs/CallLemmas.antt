@@ -34,7 +34,7 @@ use Rattle.script_meaning.specs.declared.site.Role.TheVariants as role
 use Rattle.script_meaning.specs.declared.site.Site.{Site}
 use Rattle.script_steps.specs.After.{after, Waits}
 use Rattle.script_steps.specs.Called.{closure_of, called_as}
-use Rattle.script_steps.specs.Sound.{IsSoundSite}
+use Rattle.script_steps.specs.Sound.{IsSoundCall, IsSoundSite}
 use Rattle.script_steps.specs.declared.frame.Frame.TheVariants as frame
 use Rattle.script_steps.specs.declared.frame.Step.{Step}
 use Rattle.script_steps.specs.declared.frame.Step.TheVariants.{Into}
@@ -64,9 +64,6 @@ site_grows s t site grows sound = record {
   receiver = value_grows s t site.receiver grows sound.receiver;
 }
 
-pub value_kept : (s t : Store) (v : Value) → Grows s t → IsSoundValue s v → IsSoundValue t v
-value_kept s t v grows sound = value_grows s t v grows sound
-
 -- in another scope, of a store that has grown
 pub site_in : (s t : Store) (site : Site) (scope : ℕ) → Grows s t → IsSoundSite s site → IsAt IsScope t scope
     → IsSoundSite t (record site { scope = scope })
@@ -88,8 +85,15 @@ only s v sound = λ k d within. by k d within
     by zero d within = sound
     by (suc k) d within = absurd (omega (arith, within))
 
-pub all_and : (s : Store) (values : List Value) (v : Value) → All (IsSoundValue s) values → IsSoundValue s v → All (IsSoundValue s) (values ++ v ∷ [])
-all_and s values v all sound = All-append (IsSoundValue s) values (v ∷ []) all (only s v sound)
+-- a call with one argument more
+pub with_argument : (s : Store) (function receiver : Value) (values : List Value) (site : Site) (v : Value)
+    → IsSoundCall s function receiver values site → IsSoundValue s v → IsSoundCall s function receiver (values ++ v ∷ []) site
+with_argument s function receiver values site v sound one = record {
+  called = sound.called;
+  given = sound.given;
+  before = All-append (IsSoundValue s) values (v ∷ []) sound.before (only s v one);
+  at = sound.at;
+}
 
 -- ---- arrays
 

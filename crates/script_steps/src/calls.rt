@@ -12,7 +12,7 @@ ghost use Rattle.script_meaning.specs.Functions.{is_body, is_function, this_of, 
 ghost use Rattle.script_meaning.specs.Places.{form_at};
 ghost use Rattle.script_steps.specs.After.{after, Steps, Waits};
 ghost use Rattle.script_steps.specs.Called.{closure_of, closure_call};
-ghost use Rattle.script_steps.specs.Sound.{IsSoundSite, IsSoundStep};
+ghost use Rattle.script_steps.specs.Sound.{IsSoundCall, IsSoundEnd, IsSoundSite, IsSoundStep};
 
 use crate::builtins::refuse_call;
 use crate::ends::{abrupt_of, of_heap};
@@ -255,6 +255,20 @@ pub(crate) fn call(
     }
 }
 
+/// Ends a call with its body's end: with what the body returns, and else with undefined.
+#[tactic(auto, unfolding(crate::specs::After::after))]
+pub(crate) fn body(scripts: &Scripts, end: Result<Ended, Abrupt>) -> Step
+    ensures step { Waits scripts.now result (λ at s. after at scripts.now Frame.Body (end, s)) }
+    ensures sound { (s : Store) → IsSoundEnd s end → IsSoundStep s result }
+{
+    let _ = scripts;
+    match end {
+        Ok(_) => Step::Ended(Ok(Ended::Value(Value::Undefined))),
+        Err(Abrupt::Return(value)) => Step::Ended(Ok(Ended::Value(value))),
+        Err(abrupt) => Step::Ended(Err(abrupt)),
+    }
+}
+
 // ---- the form of a call
 
 /// Begins a call, by its callee.
@@ -288,10 +302,7 @@ fn arguments_from(
     site: Site,
 ) -> Step
     requires closed { IsClosed heap.old }
-    requires function { IsSoundValue heap.old function }
-    requires receiver { IsSoundValue heap.old receiver }
-    requires values { All (IsSoundValue heap.old) values }
-    requires site { IsSoundSite heap.old site }
+    requires call { IsSoundCall heap.old function receiver values site }
 
     ensures step { Steps scripts.now result heap.old heap.new (λ at s. arguments_rule at (kids_from place ((form_at scripts.now site.script node).kids)) site values (λ arguments s. call_rule at scripts.now function receiver arguments s) s) }
 
@@ -328,10 +339,7 @@ fn arguments_behind(
     site: Site,
 ) -> Step
     requires closed { IsClosed heap.old }
-    requires function { IsSoundValue heap.old function }
-    requires receiver { IsSoundValue heap.old receiver }
-    requires values { All (IsSoundValue heap.old) values }
-    requires site { IsSoundSite heap.old site }
+    requires call { IsSoundCall heap.old function receiver values site }
 
     ensures step { Steps scripts.now result heap.old heap.new (λ at s. arguments_rule at (kids_from (suc place) ((form_at scripts.now site.script node).kids)) site values (λ arguments s. call_rule at scripts.now function receiver arguments s) s) }
 
@@ -397,7 +405,7 @@ pub(crate) fn callee(
 }
 
 /// Goes on with an argument behind those before it.
-#[tactic(auto, unfolding(crate::specs::After::after), using(crate::proofs::CallLemmas::all_and))]
+#[tactic(auto, unfolding(crate::specs::After::after), using(crate::proofs::CallLemmas::with_argument))]
 pub(crate) fn argument(
     alloc: Global,
     scripts: &Scripts,
@@ -411,10 +419,7 @@ pub(crate) fn argument(
     value: Value,
 ) -> Step
     requires closed { IsClosed heap.old }
-    requires function { IsSoundValue heap.old function }
-    requires receiver { IsSoundValue heap.old receiver }
-    requires values { All (IsSoundValue heap.old) values }
-    requires site { IsSoundSite heap.old site }
+    requires call { IsSoundCall heap.old function receiver values site }
     requires value { IsSoundValue heap.old value }
 
     ensures step { Steps scripts.now result heap.old heap.new (λ at s. after at scripts.now (Frame.Argument node place function receiver values site) (Ok (Ended.Value value), s)) }

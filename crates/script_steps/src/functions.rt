@@ -5,7 +5,7 @@ ghost use Rattle.charged_heap.specs.Growth.{Grows};
 ghost use Rattle.js_ops.specs.Outcome.{Gives, IsSoundResult};
 ghost use Rattle.script_meaning.specs.Outcome.{of_heap};
 ghost use Rattle.script_meaning.specs.Expressions.{closure_made, function_by, function_rule};
-ghost use Rattle.script_meaning.specs.Places.{form_at};
+ghost use Rattle.script_meaning.specs.Places.{ScriptList, form_at};
 ghost use Rattle.script_steps.specs.After.{Steps};
 ghost use Rattle.script_steps.specs.Ends.{end_of};
 ghost use Rattle.script_steps.specs.Sound.{IsSoundSite, IsSoundStep};
@@ -56,10 +56,9 @@ pub(crate) fn arrow(scripts: &Scripts, heap: &mut Heap, node: u32, site: Site) -
 }
 
 /// Makes a function that knows its own name: it stands in a scope of that one name.
-#[tactic(auto, using(crate::proofs::CallLemmas::site_in, crate::proofs::CallLemmas::value_kept))]
+#[tactic(auto, using(crate::proofs::CallLemmas::site_in, charged_heap::proofs::ClosedLaws::value_grows))]
 fn make_named(
     alloc: Global,
-    scripts: &Scripts,
     heap: &mut Heap,
     node: u32,
     site: Site,
@@ -67,13 +66,12 @@ fn make_named(
 ) -> Result<Value, Fail>
     requires { IsSoundSite heap.old site }
 
-    ensures step { Steps scripts.now (Step.Ended (end_of result)) heap.old heap.new (λ at s. function_by (Some name.now) node site s) }
+    ensures step { (scripts : ScriptList) → Steps scripts (Step.Ended (end_of result)) heap.old heap.new (λ at s. function_by (Some name.now) node site s) }
 
     ensures grown { Grows heap.old heap.new }
     ensures closed { IsClosed heap.old → IsClosed heap.new }
     ensures sound { IsSoundResult heap.new result }
 {
-    let _ = scripts;
     let scope = script_scopes::name_scope(alloc, heap, site.scope, name)?;
     let inside = Site { scope, ..site };
     let function = make_closure(heap, node, inside, Value::Undefined)?;
@@ -82,7 +80,7 @@ fn make_named(
 }
 
 /// Makes a function by a function expression, with a name of its own or without.
-#[tactic(auto, using(crate::proofs::CallLemmas::function_named, crate::proofs::CallLemmas::function_unnamed))]
+#[tactic(auto, using(crate::proofs::CallLemmas::function_unnamed))]
 pub(crate) fn function(
     alloc: Global,
     scripts: &Scripts,
@@ -100,7 +98,7 @@ pub(crate) fn function(
     ensures sound { IsSoundStep heap.new result }
 {
     match name_at(scripts, site.script, node) {
-        Some(name) => of_heap(make_named(alloc, scripts, heap, node, site, name)),
+        Some(name) => of_heap(make_named(alloc, heap, node, site, name)),
         None => of_heap(make_closure(heap, node, site, Value::Undefined)),
     }
 }
