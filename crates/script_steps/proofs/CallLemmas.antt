@@ -1,6 +1,6 @@
 -- What calls, functions and literals need of stores: sites that stay sound, and items of a kind.
-use Rattle.std.proofs.Common.{◌≡◌, ◌⊎◌, ℕ, zero, suc, ◌<◌, ◌≤◌, min, List, [], ◌∷◌, ◌++◌, drop, length, get_or, Option, Some, None, Result, Ok, Err, Bool, true, false, refl, sym, ap, subst, inl, inr, arith, if◌then◌else◌}
-use Rattle.std.specs.Prelude.{slice_get, slice_index_or, IfSome, nat_le}
+use Rattle.std.proofs.Common.{◌≡◌, ◌⊎◌, ℕ, zero, suc, ◌<◌, ◌≤◌, min, List, [], ◌∷◌, ◌++◌, drop, length, Some, None, Ok, Err, refl, sym, ap, inl, inr, arith}
+use Rattle.std.specs.Prelude.{slice_get, slice_index_or, IfSome}
 use Rattle.std.proofs.Math.ListN.{drop_of_length-le}
 use Rattle.std.proofs.Math.Seq.{drop-cons}
 use Rattle.std.proofs.lemmas.Bool.{cases_lt}

@@ -20,7 +20,7 @@ abbrev pub closure_call : Inside → ScriptList → ℕ → Site → Value → L
 closure_call at scripts node site receiver arguments s =
     if is_function (form_at scripts site.script node).head.kind
     then enter_rule at (form_at scripts site.script node)
-      (record site { receiver = this_of (form_at scripts site.script node).head.kind site.receiver receiver }) arguments s
+    (record site { receiver = this_of (form_at scripts site.script node).head.kind site.receiver receiver }) arguments s
     else of_heap s (no_function s.heap)
 
 -- a call of an item that may be one

@@ -2,6 +2,7 @@
 #![tactic(auto)]
 
 mod builtins;
+mod called;
 mod calls;
 mod ends;
 mod forms;

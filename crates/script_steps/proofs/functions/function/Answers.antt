@@ -1,4 +1,4 @@
-use Rattle.std.proofs.Common.{◌≡◌, ◌∙◌, ap, sym}
+use Rattle.std.proofs.Common.{◌∙◌, ap, sym}
 use Rattle.script_meaning.specs.Places.{form_at}
 use Rattle.script_steps.specs.After.{step_out, with_left}
 use Rattle.script_steps.proofs.CallLemmas.{function_named}
