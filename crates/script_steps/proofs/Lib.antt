@@ -2,3 +2,4 @@ pub mod FormLemmas
 pub mod Growing
 pub mod ListLemmas
 pub mod PlaceLemmas
+pub mod CallLemmas

@@ -3,3 +3,4 @@ pub mod After
 pub mod Sound
 pub mod Callees
 pub mod Leaves
+pub mod Called

@@ -2,14 +2,20 @@
 #![tactic(auto)]
 
 mod assignments;
+mod builtins;
+mod called;
+mod calls;
 mod ends;
 mod forms;
 mod frame;
+mod functions;
 mod leaves;
+mod literals;
 mod members;
 mod operators;
 mod places;
 mod statements;
 mod targets;
 
+pub use builtins::call_builtin;
 pub use frame::{Frame, Inner, Step};
