@@ -1,5 +1,6 @@
 -- A list of statements, and the names of a declaration, from a place on.
-use Rattle.std.specs.Prelude.{drop, slice_get}
+use Rattle.std.specs.Prelude.{drop, slice_get, slice_index_or}
+use Rattle.std.proofs.lemmas.Option.{slice_get-get_or, get_or_from_slice_get}
 use Rattle.std.proofs.Common.{◌≡◌, ◌∙◌, ℕ, zero, suc, ◌<◌, ◌≤◌, List, [], ◌∷◌, Option, Some, None, length, refl, sym, ap, arith}
 use Rattle.charged_heap.specs.declared.values.Value.{Value}
 use Rattle.js_syntax.specs.Tree.{Head, Trees, nothing, tree}
@@ -105,4 +106,25 @@ pub declared_rest : (at : Inside) (names : List (List ℕ)) (kids : Trees) (plac
     → declare_rule at names (kids_from place kids) site s ≡ is_empty s
 declared_rest at names kids place site s past = rw (kids_from-past place kids past) (nothing_declared at names site s)
 
-pub ruleset declared = (names_at_place, declared_without, declared_with, declared_all, declared_rest)
+-- so a declaration waits for the initialiser of the name at the place
+pub declaration_waits : (at : Inside) (scripts : ScriptList) (node place : ℕ) (site : Site) (initialiser : ℕ) (s : State)
+    → place < kid_count ((form_at scripts site.script node).kids) → place < length ((form_at scripts site.script node).head).names
+    → form_at scripts site.script initialiser ≡ kid place ((form_at scripts site.script node).kids)
+    → (((kid place ((form_at scripts site.script node).kids)).head).kind ≡ kinds.Absent → ⊥)
+    → after at scripts (frame.Declarator node place site) (node_out at scripts role.Value initialiser site s)
+      ≡ declare_rule at (drop place ((form_at scripts site.script node).head).names) (kids_from place ((form_at scripts site.script node).kids)) site s
+unfolding after
+declaration_waits at scripts node place site initialiser s within named e there =
+    rw e (declared_with at (((form_at scripts site.script node).head).names) ((form_at scripts site.script node).kids) place
+      (slice_index_or (((form_at scripts site.script node).head).names) place []) site s
+      (slice_get-get_or (((form_at scripts site.script node).head).names) place [] named) within there)
+
+-- a place without a name is read as the empty text
+pub unnamed : (names : List (List ℕ)) (place : ℕ) → length names ≤ place → slice_index_or names place [] ≡ []
+unnamed [] place past = refl
+unnamed (name ∷ names) zero past = absurd (omega arith)
+unnamed (name ∷ names) (suc place) past = unnamed names place (omega arith)
+
+pub ruleset declared = (declared_without)
+pub ruleset ends = (declared_all, declared_rest)
+pub ruleset named = (unnamed, get_or_from_slice_get)
