@@ -2,6 +2,7 @@
 #![tactic(auto)]
 
 mod assignments;
+mod beginning;
 mod builtins;
 mod called;
 mod calls;
@@ -17,5 +18,6 @@ mod places;
 mod statements;
 mod targets;
 
+pub use beginning::begin;
 pub use builtins::call_builtin;
 pub use frame::{Frame, Inner, Step};
