@@ -50,7 +50,7 @@ unary_rule op at kids site s =
 -- `typeof` of a name asks for its place alone, since a name that is nowhere has a type too
 abbrev pub typeof_by : Kind → ScriptList → Inside → Trees → Site → State → Out
 typeof_by kinds.Name scripts at kids site s =
-    with_place (at role.Target (kid 0 kids) site s) (λ where s. of_heap s (place_type scripts site where s.heap))
+    with_place (at role.Target (kid 0 kids) site s) (λ target s. of_heap s (place_type scripts site target s.heap))
 typeof_by _ scripts at kids site s = unary_rule unary.TypeOf at kids site s
 
 unfoldable pub typeof_rule : ScriptList → Inside → Trees → Site → State → Out
@@ -86,18 +86,18 @@ logical_rule op at kids site s =
 
 unfoldable pub assign_rule : ScriptList → Inside → Trees → Site → State → Out
 assign_rule scripts at kids site s =
-    with_place (at role.Target (kid 0 kids) site s) (λ where s.
+    with_place (at role.Target (kid 0 kids) site s) (λ target s.
     with_value (at role.Value (kid 1 kids) site s) (λ v s.
-    of_heap s (place_written scripts site where v s.heap)))
+    of_heap s (place_written scripts site target v s.heap)))
 
 -- the place is read before the right side is evaluated
 unfoldable pub update_rule : BinaryOperator → ScriptList → Inside → Trees → Site → State → Out
 update_rule op scripts at kids site s =
-    with_place (at role.Target (kid 0 kids) site s) (λ where s.
-    with_value (of_heap s (place_read scripts site where s.heap)) (λ old s.
+    with_place (at role.Target (kid 0 kids) site s) (λ target s.
+    with_value (of_heap s (place_read scripts site target s.heap)) (λ old s.
     with_value (at role.Value (kid 1 kids) site s) (λ v s.
     with_value (of_heap s (binary_outcome op old v s.heap)) (λ new s.
-    of_heap s (place_written scripts site where new s.heap)))))
+    of_heap s (place_written scripts site target new s.heap)))))
 
 -- what `++` and `--` give: the new value before the operand, the old one behind it
 abbrev pub given : Bool → Value → Value → Value
@@ -106,10 +106,10 @@ given false old new = old
 
 unfoldable pub step_rule : UnaryOperator → Bool → ScriptList → Inside → Trees → Site → State → Out
 step_rule op before scripts at kids site s =
-    with_place (at role.Target (kid 0 kids) site s) (λ where s.
-    with_value (of_heap s (place_read scripts site where s.heap)) (λ old s.
+    with_place (at role.Target (kid 0 kids) site s) (λ target s.
+    with_value (of_heap s (place_read scripts site target s.heap)) (λ old s.
     with_value (of_heap s (unary_outcome op old s.heap)) (λ new s.
-    with_value (of_heap s (place_written scripts site where new s.heap)) (λ _ s.
+    with_value (of_heap s (place_written scripts site target new s.heap)) (λ _ s.
     gives (given before old new) s))))
 
 -- ---- members

@@ -41,30 +41,30 @@ after at scripts (frame.Left operator right site) o =
     with_value o (λ left s. with_value (node_out at scripts role.Value right site s) (λ right s. of_heap s (binary_outcome operator left right s.heap)))
 after at scripts (frame.Right operator left) o = with_value o (λ right s. of_heap s (binary_outcome operator left right s.heap))
 after at scripts (frame.Operand operator) o = with_value o (λ operand s. of_heap s (unary_outcome operator operand s.heap))
-after at scripts (frame.TypeOfPlace site) o = with_place o (λ where s. of_heap s (place_type scripts site where s.heap))
+after at scripts (frame.TypeOfPlace site) o = with_place o (λ target s. of_heap s (place_type scripts site target s.heap))
 after at scripts frame.Void o = with_value o (λ _ s. gives value.Undefined s)
 after at scripts (frame.Condition good bad site) o =
     with_value o (λ v s. if truthy s.heap v then node_out at scripts role.Value good site s else node_out at scripts role.Value bad site s)
 after at scripts (frame.Logical operator right site) o =
     with_value o (λ v s. if goes_right operator s.heap v then node_out at scripts role.Value right site s else gives v s)
 after at scripts (frame.AssignTarget right site) o =
-    with_place o (λ where s. with_value (node_out at scripts role.Value right site s) (λ v s. of_heap s (place_written scripts site where v s.heap)))
-after at scripts (frame.AssignValue where site) o = with_value o (λ v s. of_heap s (place_written scripts site where v s.heap))
+    with_place o (λ target s. with_value (node_out at scripts role.Value right site s) (λ v s. of_heap s (place_written scripts site target v s.heap)))
+after at scripts (frame.AssignValue target site) o = with_value o (λ v s. of_heap s (place_written scripts site target v s.heap))
 after at scripts (frame.UpdateTarget operator right site) o =
-    with_place o (λ where s.
-    with_value (of_heap s (place_read scripts site where s.heap)) (λ old s.
+    with_place o (λ target s.
+    with_value (of_heap s (place_read scripts site target s.heap)) (λ old s.
     with_value (node_out at scripts role.Value right site s) (λ v s.
     with_value (of_heap s (binary_outcome operator old v s.heap)) (λ new s.
-    of_heap s (place_written scripts site where new s.heap)))))
-after at scripts (frame.UpdateValue operator where old site) o =
+    of_heap s (place_written scripts site target new s.heap)))))
+after at scripts (frame.UpdateValue operator target old site) o =
     with_value o (λ v s.
     with_value (of_heap s (binary_outcome operator old v s.heap)) (λ new s.
-    of_heap s (place_written scripts site where new s.heap)))
+    of_heap s (place_written scripts site target new s.heap)))
 after at scripts (frame.StepTarget operator before site) o =
-    with_place o (λ where s.
-    with_value (of_heap s (place_read scripts site where s.heap)) (λ old s.
+    with_place o (λ target s.
+    with_value (of_heap s (place_read scripts site target s.heap)) (λ old s.
     with_value (of_heap s (unary_outcome operator old s.heap)) (λ new s.
-    with_value (of_heap s (place_written scripts site where new s.heap)) (λ _ s.
+    with_value (of_heap s (place_written scripts site target new s.heap)) (λ _ s.
     gives (given before old new) s))))
 after at scripts (frame.Member for node script) o =
     with_value o (λ base s. member_for for base (key.Name node) s (read_outcome base (name_at scripts script node) s.heap))

@@ -5,6 +5,8 @@ use Rattle.std.specs.List.{All}
 use Rattle.charged_heap.specs.Store.{Store, IsAt, IsArray, IsPlain, IsScope}
 use Rattle.charged_heap.specs.Closed.{IsSoundValue}
 use Rattle.charged_heap.specs.declared.values.Value.{Value}
+use Rattle.js_syntax.specs.declared.kind.Kind.{Kind}
+use Rattle.js_syntax.specs.declared.kind.Kind.TheVariants as kinds
 use Rattle.script_meaning.specs.declared.completion.Abrupt.{Abrupt}
 use Rattle.script_meaning.specs.declared.completion.Abrupt.TheVariants as abrupt
 use Rattle.script_meaning.specs.declared.completion.Ended.{Ended}
@@ -19,6 +21,13 @@ use Rattle.script_steps.specs.declared.frame.Frame.TheVariants as frame
 use Rattle.script_steps.specs.declared.frame.Step.{Step}
 use Rattle.script_steps.specs.declared.frame.Step.TheVariants as step
 
+-- ---- forms
+
+-- a form of that kind is there
+abbrev pub IsThere : Kind → Type 0
+IsThere kinds.Absent = ⊥
+IsThere _ = Unit {0}
+
 -- ---- ends
 
 abbrev pub IsSoundKey : Store → Key → Type 0
@@ -32,7 +41,7 @@ IsSoundPlace s (place.Member base k) = IsSoundValue s base × IsSoundKey s k
 abbrev pub IsSoundEnded : Store → Ended → Type 0
 IsSoundEnded s ended.Empty = Unit {0}
 IsSoundEnded s (ended.Value v) = IsSoundValue s v
-IsSoundEnded s (ended.Place where) = IsSoundPlace s where
+IsSoundEnded s (ended.Place target) = IsSoundPlace s target
 IsSoundEnded s (ended.Member function receiver) = IsSoundValue s function × IsSoundValue s receiver
 
 abbrev pub IsSoundAbrupt : Store → Abrupt → Type 0
@@ -59,10 +68,10 @@ pub record IsSoundSite (s : Store) (site : Site) : Type 0 where
 
 -- a call that waits for an argument has a function, a receiver and the arguments before it
 pub record IsSoundCall (s : Store) (function receiver : Value) (values : List Value) (site : Site) : Type 0 where
-  pub function : IsSoundValue s function
-  pub receiver : IsSoundValue s receiver
-  pub values : All (IsSoundValue s) values
-  pub site : IsSoundSite s site
+  pub called : IsSoundValue s function
+  pub given : IsSoundValue s receiver
+  pub before : All (IsSoundValue s) values
+  pub at : IsSoundSite s site
 
 abbrev pub IsSoundFrame : Store → Frame → Type 0
 IsSoundFrame s frame.Pass = Unit {0}
@@ -75,9 +84,9 @@ IsSoundFrame s frame.Void = Unit {0}
 IsSoundFrame s (frame.Condition good bad site) = IsSoundSite s site
 IsSoundFrame s (frame.Logical operator right site) = IsSoundSite s site
 IsSoundFrame s (frame.AssignTarget right site) = IsSoundSite s site
-IsSoundFrame s (frame.AssignValue where site) = IsSoundPlace s where × IsSoundSite s site
+IsSoundFrame s (frame.AssignValue target site) = IsSoundPlace s target × IsSoundSite s site
 IsSoundFrame s (frame.UpdateTarget operator right site) = IsSoundSite s site
-IsSoundFrame s (frame.UpdateValue operator where old site) = IsSoundPlace s where × IsSoundValue s old × IsSoundSite s site
+IsSoundFrame s (frame.UpdateValue operator target old site) = IsSoundPlace s target × IsSoundValue s old × IsSoundSite s site
 IsSoundFrame s (frame.StepTarget operator before site) = IsSoundSite s site
 IsSoundFrame s (frame.Member role node script) = Unit {0}
 IsSoundFrame s (frame.IndexObject role n site) = IsSoundSite s site

@@ -1,9 +1,10 @@
 //! What stands at a node of a script by numbers; nothing where there is no such node.
-ghost use Rattle.std.specs.Prelude.{◌≡◌, ◌<◌, length, IfOk, MatchOption};
+ghost use Rattle.std.specs.Prelude.{◌≡◌, ◌<◌, [], length, IfOk, MatchOption};
 ghost use Rattle.std.specs.Option.{option_copied};
 ghost use Rattle.script_trees.specs.Tree.{tree_of, absent, kid, kid_count};
 ghost use Rattle.script_trees.specs.Declarations.{declarations};
 ghost use Rattle.script_meaning.specs.Places.{form_at, script_at};
+ghost use Rattle.script_steps.specs.Sound.{IsThere};
 
 use ivm_text::{NoMemory, Units};
 use item_list::Items;
@@ -11,18 +12,39 @@ use js_syntax::{Kind, Script, Scripts};
 use script_trees::Declarations;
 use std::alloc::Global;
 
-/// The script with this number, where it has the node.
-fn script_with(scripts: &Scripts, script: u32, node: u32) -> Option<&Script>
-    ensures there { MatchOption result (form_at scripts.now script node ≡ absent) (λ found. (found.now ≡ script_at scripts.now script) × (node < length found.now)) }
-    ensures form { MatchOption result (form_at scripts.now script node ≡ absent) (λ found. form_at scripts.now script node ≡ tree_of found.now node) }
+/// The nodes of a script; none where there is no such script.
+#[tactic(auto, using(crate::proofs::FormLemmas::no_script, crate::proofs::FormLemmas::a_script))]
+fn script_at(scripts: &Scripts, script: u32) -> Option<&Script>
+    ensures { MatchOption result (script_at scripts.now script ≡ []) (λ found. script_at scripts.now script ≡ found.now) }
 {
-    let found = scripts.get(script)?.script();
-    if node < found.len() { Some(found) } else { None }
+    match scripts.get(script) {
+        Some(checked) => Some(checked.script()),
+        None => None,
+    }
 }
 
-/// The kind of the form.
+/// The script with this number, where it has the node.
+#[tactic(auto, using(crate::proofs::FormLemmas::form_there, crate::proofs::FormLemmas::form_missing))]
+fn script_with(scripts: &Scripts, script: u32, node: u32) -> Option<&Script>
+    ensures there { MatchOption result (form_at scripts.now script node ≡ absent) (λ found. (script_at scripts.now script ≡ found.now) × (node < length found.now)) }
+    ensures form { MatchOption result (form_at scripts.now script node ≡ absent) (λ found. form_at scripts.now script node ≡ tree_of found.now node) }
+{
+    match script_at(scripts, script) {
+        Some(found) => {
+            if node < found.len() {
+                Some(found)
+            } else {
+                None
+            }
+        }
+        None => None,
+    }
+}
+
+/// The kind of the form, which knows its number where it is there.
 pub(crate) fn kind_at(scripts: &Scripts, script: u32, node: u32) -> Kind
-    ensures { result ≡ ((form_at scripts.now script node).head).kind }
+    ensures kind { result ≡ ((form_at scripts.now script node).head).kind }
+    ensures itself { IsThere result → ((form_at scripts.now script node).head).number_of_node ≡ node }
 {
     match script_with(scripts, script, node) {
         Some(found) => script_trees::kind(found, node),
@@ -31,14 +53,19 @@ pub(crate) fn kind_at(scripts: &Scripts, script: u32, node: u32) -> Kind
 }
 
 /// The number of a part, counted from 0; one of no node where there is no such part.
+#[tactic(auto, using(crate::proofs::FormLemmas::form_there, crate::proofs::FormLemmas::form_missing, crate::proofs::FormLemmas::kid_missing))]
 pub(crate) fn kid_at(scripts: &Scripts, script: u32, node: u32, place: u32) -> u32
     ensures { form_at scripts.now script result ≡ kid place ((form_at scripts.now script node).kids) }
 {
     match script_with(scripts, script, node) {
-        Some(found) if place < script_trees::kid_count(found, node) => {
-            script_trees::kid(found, node, place)
+        Some(found) => {
+            if place < script_trees::kid_count(found, node) {
+                script_trees::kid(found, node, place)
+            } else {
+                found.len()
+            }
         }
-        _ => u32::MAX,
+        None => node,
     }
 }
 

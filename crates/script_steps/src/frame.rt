@@ -1,5 +1,7 @@
 //! What is left of a form while a node inside it is evaluated.
 
+ghost use Rattle.std.specs.Prelude.{◌≡◌};
+
 use charged_heap::{Builtin, Value, Values};
 use js_ops::{BinaryOperator, UnaryOperator};
 use js_syntax::Kind;
@@ -135,4 +137,36 @@ pub enum Step {
         receiver: Value,
         arguments: Values,
     },
+}
+
+impl Step {
+    /// The form waits in this frame for an expression of its site.
+    pub(crate) fn value(frame: Frame, node: u32, site: Site) -> Step
+        ensures { result ≡ Step.Into frame (record { role = Role.Value; node = node; site = site }) }
+    {
+        Step::waits(frame, Role::Value, node, site)
+    }
+
+    /// The form waits in this frame for a target of its site.
+    pub(crate) fn target(frame: Frame, node: u32, site: Site) -> Step
+        ensures { result ≡ Step.Into frame (record { role = Role.Target; node = node; site = site }) }
+    {
+        Step::waits(frame, Role::Target, node, site)
+    }
+
+    /// The form waits in this frame for a statement of its site.
+    pub(crate) fn statement(frame: Frame, node: u32, site: Site) -> Step
+        ensures { result ≡ Step.Into frame (record { role = Role.Statement; node = node; site = site }) }
+    {
+        Step::waits(frame, Role::Statement, node, site)
+    }
+
+    fn waits(frame: Frame, role: Role, node: u32, site: Site) -> Step
+        ensures { result ≡ Step.Into frame (record { role = role; node = node; site = site }) }
+    {
+        Step::Into {
+            frame,
+            inner: Inner { role, node, site },
+        }
+    }
 }

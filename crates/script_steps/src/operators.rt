@@ -8,14 +8,16 @@ ghost use Rattle.script_meaning.specs.Places.{form_at};
 ghost use Rattle.script_steps.specs.After.{after, Steps, Waits};
 ghost use Rattle.script_steps.specs.Sound.{IsSoundSite, IsSoundStep};
 
-use crate::ends::{of_heap, value_step};
+use crate::ends::of_heap;
 use crate::forms::{kid_at, kind_at};
-use crate::{Frame, Inner, Step};
+use crate::{Frame, Step};
 use charged_heap::{Heap, Value};
 use js_ops::{BinaryOperator, UnaryOperator, truthy};
 use js_syntax::{Kind, Scripts};
-use script_meaning::{Role, Site};
+use script_meaning::{Ended, Site};
 use std::alloc::Global;
+
+// ---- two operands
 
 /// Begins `a, b`.
 #[tactic(auto, unfolding(crate::specs::After::after, script_meaning::specs::Expressions::comma_rule))]
@@ -23,15 +25,9 @@ pub(crate) fn begin_comma(scripts: &Scripts, node: u32, site: Site) -> Step
     ensures step { Waits scripts.now result (λ at s. comma_rule at ((form_at scripts.now site.script node).kids) site s) }
     ensures sound { (s : Store) → IsSoundSite s site → IsSoundStep s result }
 {
+    let left = kid_at(scripts, site.script, node, 0);
     let right = kid_at(scripts, site.script, node, 1);
-    Step::Into {
-        frame: Frame::Comma { right, site },
-        inner: Inner {
-            role: Role::Value,
-            node: kid_at(scripts, site.script, node, 0),
-            site,
-        },
-    }
+    Step::value(Frame::Comma { right, site }, left, site)
 }
 
 /// Begins an operator of two operands.
@@ -45,19 +41,14 @@ pub(crate) fn begin_binary(
     ensures step { Waits scripts.now result (λ at s. binary_rule operator at ((form_at scripts.now site.script node).kids) site s) }
     ensures sound { (s : Store) → IsSoundSite s site → IsSoundStep s result }
 {
+    let left = kid_at(scripts, site.script, node, 0);
     let right = kid_at(scripts, site.script, node, 1);
-    Step::Into {
-        frame: Frame::Left {
-            operator,
-            right,
-            site,
-        },
-        inner: Inner {
-            role: Role::Value,
-            node: kid_at(scripts, site.script, node, 0),
-            site,
-        },
-    }
+    let waiting = Frame::Left {
+        operator,
+        right,
+        site,
+    };
+    Step::value(waiting, left, site)
 }
 
 /// Goes on with the left operand.
@@ -72,14 +63,8 @@ pub(crate) fn left(
     ensures step { Waits scripts.now result (λ at s. after at scripts.now (Frame.Left operator right site) (Ok (Ended.Value left), s)) }
     ensures sound { (s : Store) → IsSoundSite s site → IsSoundValue s left → IsSoundStep s result }
 {
-    Step::Into {
-        frame: Frame::Right { operator, left },
-        inner: Inner {
-            role: Role::Value,
-            node: right,
-            site,
-        },
-    }
+    let _ = scripts;
+    Step::value(Frame::Right { operator, left }, right, site)
 }
 
 /// Ends an operator with its right operand.
@@ -99,5 +84,95 @@ pub(crate) fn right(
     ensures closed { IsClosed heap.old → IsClosed heap.new }
     ensures sound { IsSoundStep heap.new result }
 {
+    let _ = scripts;
     of_heap(js_ops::binary(alloc, heap, operator, left, right))
+}
+
+// ---- one operand
+
+/// Begins an operator of one operand.
+#[tactic(auto, unfolding(crate::specs::After::after, script_meaning::specs::Expressions::unary_rule))]
+pub(crate) fn begin_unary(
+    scripts: &Scripts,
+    operator: UnaryOperator,
+    node: u32,
+    site: Site,
+) -> Step
+    ensures step { Waits scripts.now result (λ at s. unary_rule operator at ((form_at scripts.now site.script node).kids) site s) }
+    ensures sound { (s : Store) → IsSoundSite s site → IsSoundStep s result }
+{
+    let operand = kid_at(scripts, site.script, node, 0);
+    Step::value(Frame::Operand { operator }, operand, site)
+}
+
+/// Begins `typeof`, which asks for the place alone where its operand is a name.
+#[tactic(auto, unfolding(crate::specs::After::after, script_meaning::specs::Expressions::typeof_rule, script_meaning::specs::Expressions::unary_rule))]
+pub(crate) fn begin_typeof(scripts: &Scripts, node: u32, site: Site) -> Step
+    ensures step { Waits scripts.now result (λ at s. typeof_rule scripts.now at ((form_at scripts.now site.script node).kids) site s) }
+    ensures sound { (s : Store) → IsSoundSite s site → IsSoundStep s result }
+{
+    let operand = kid_at(scripts, site.script, node, 0);
+    match kind_at(scripts, site.script, operand) {
+        Kind::Name => Step::target(Frame::TypeOfPlace { site }, operand, site),
+        _ => begin_unary(scripts, UnaryOperator::TypeOf, node, site),
+    }
+}
+
+/// Begins `void`.
+#[tactic(auto, unfolding(crate::specs::After::after, script_meaning::specs::Expressions::void_rule))]
+pub(crate) fn begin_void(scripts: &Scripts, node: u32, site: Site) -> Step
+    ensures step { Waits scripts.now result (λ at s. void_rule at ((form_at scripts.now site.script node).kids) site s) }
+    ensures sound { (s : Store) → IsSoundSite s site → IsSoundStep s result }
+{
+    let operand = kid_at(scripts, site.script, node, 0);
+    Step::value(Frame::Void, operand, site)
+}
+
+/// Ends an operator with its operand.
+#[tactic(auto, unfolding(crate::specs::After::after))]
+pub(crate) fn operand(
+    alloc: Global,
+    scripts: &Scripts,
+    heap: &mut Heap,
+    operator: UnaryOperator,
+    operand: Value,
+) -> Step
+    requires { IsSoundValue heap.old operand }
+    ensures step { Steps scripts.now result heap.old heap.new (λ at s. after at scripts.now (Frame.Operand operator) (Ok (Ended.Value operand), s)) }
+    ensures grown { Grows heap.old heap.new }
+    ensures closed { IsClosed heap.old → IsClosed heap.new }
+    ensures sound { IsSoundStep heap.new result }
+{
+    let _ = scripts;
+    of_heap(js_ops::unary(alloc, heap, operator, operand))
+}
+
+// ---- choices
+
+/// Begins `?:`.
+#[tactic(auto, unfolding(crate::specs::After::after, script_meaning::specs::Expressions::condition_rule))]
+pub(crate) fn begin_condition(scripts: &Scripts, node: u32, site: Site) -> Step
+    ensures step { Waits scripts.now result (λ at s. condition_rule at ((form_at scripts.now site.script node).kids) site s) }
+    ensures sound { (s : Store) → IsSoundSite s site → IsSoundStep s result }
+{
+    let condition = kid_at(scripts, site.script, node, 0);
+    let good = kid_at(scripts, site.script, node, 1);
+    let bad = kid_at(scripts, site.script, node, 2);
+    Step::value(Frame::Condition { good, bad, site }, condition, site)
+}
+
+/// Begins `&&`, `||` or `??`.
+#[tactic(auto, unfolding(crate::specs::After::after, script_meaning::specs::Expressions::logical_rule))]
+pub(crate) fn begin_logical(scripts: &Scripts, operator: Kind, node: u32, site: Site) -> Step
+    ensures step { Waits scripts.now result (λ at s. logical_rule operator at ((form_at scripts.now site.script node).kids) site s) }
+    ensures sound { (s : Store) → IsSoundSite s site → IsSoundStep s result }
+{
+    let left = kid_at(scripts, site.script, node, 0);
+    let right = kid_at(scripts, site.script, node, 1);
+    let waiting = Frame::Logical {
+        operator,
+        right,
+        site,
+    };
+    Step::value(waiting, left, site)
 }

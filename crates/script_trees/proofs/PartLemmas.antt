@@ -30,6 +30,11 @@ kids_from-at i nothing within = absurd (omega arith)
 kids_from-at zero (tree head kids rest) within = refl
 kids_from-at (suc i) (tree head kids rest) within = kids_from-at i rest (omega arith)
 
+-- the same where the tree of part i is at hand
+pub kids_from_kid : (i : ℕ) (kids : Trees) (t : Tree) → i < kid_count kids → t ≡ kid i kids
+    → kids_from i kids ≡ tree (t.head) (t.kids) (kids_from (i + 1) kids)
+kids_from_kid i kids t within is = rw (is, add-one i) (kids_from-at i kids within)
+
 -- from the number of the parts on there are none
 pub kids_from-past : (i : ℕ) (kids : Trees) → kid_count kids ≤ i → kids_from i kids ≡ nothing
 kids_from-past zero nothing past = refl

@@ -1,0 +1,4 @@
+pub mod FormLemmas
+pub mod Growing
+pub mod ListLemmas
+pub mod PlaceLemmas

@@ -1,0 +1,234 @@
+//! Statements: where they begin and how they go on.
+ghost use Rattle.std.specs.Prelude.{◌≡◌, ◌↔◌, IsTrue, ◌≢◌, ◌≤◌, suc, Option, Ok, Err, None, IfSome, drop, length, slice_index_or, [], if◌then◌else◌};
+ghost use Rattle.charged_heap.specs.Closed.{IsClosed, IsSoundValue};
+ghost use Rattle.charged_heap.specs.Growth.{Grows};
+ghost use Rattle.charged_heap.specs.Store.{Store};
+ghost use Rattle.script_trees.specs.Tree.{kid, kids_from};
+ghost use Rattle.script_meaning.specs.Statements.{list_rule, block_rule, declare_rule, if_rule, return_rule, latest, ended_with, or_undefined};
+ghost use Rattle.script_meaning.specs.Places.{form_at};
+ghost use Rattle.script_steps.specs.After.{after, Steps, Waits};
+ghost use Rattle.script_steps.specs.Sound.{IsSoundSite, IsSoundStep};
+
+use crate::ends::abrupt_of;
+use crate::forms::{declarations_at, kid_at, kid_count_at, kind_at, names_at};
+use crate::{Frame, Step};
+use charged_heap::{Heap, Value};
+use js_ops::truthy;
+use js_syntax::{Kind, Scripts};
+use script_meaning::{Abrupt, Ended, Site};
+use std::alloc::Global;
+
+// ---- values of statements
+
+/// The later value, where there is one.
+pub(crate) fn latest(value: Option<Value>, last: Option<Value>) -> Option<Value>
+    ensures { result ≡ latest value last }
+{
+    match value {
+        Some(value) => Some(value),
+        None => last,
+    }
+}
+
+/// A statement that has a value, or none.
+pub(crate) fn ended_with(value: Option<Value>) -> Ended
+    ensures { result ≡ ended_with value }
+{
+    match value {
+        Some(value) => Ended::Value(value),
+        None => Ended::Empty,
+    }
+}
+
+/// A value, and undefined where there is none.
+pub(crate) fn or_undefined(value: Option<Value>) -> Option<Value>
+    ensures { result ≡ or_undefined value }
+{
+    Some(value.unwrap_or(Value::Undefined))
+}
+
+// ---- lists
+
+/// The statements of a list from a place on, where the last value so far is this one.
+#[tactic(auto, unfolding(script_meaning::specs::Statements::list_rule), using(script_trees::proofs::PartLemmas::parts_from, crate::proofs::ListLemmas::lists))]
+pub(crate) fn list_from(
+    scripts: &Scripts,
+    node: u32,
+    place: u32,
+    last: Option<Value>,
+    site: Site,
+) -> Step
+    ensures step { Waits scripts.now result (λ at s. list_rule at (kids_from place ((form_at scripts.now site.script node).kids)) site last s) }
+    ensures sound { (s : Store) → IsSoundSite s site → IfSome last (IsSoundValue s) → IsSoundStep s result }
+{
+    if place < kid_count_at(scripts, site.script, node) {
+        let statement = kid_at(scripts, site.script, node, place);
+        let waiting = Frame::List {
+            node,
+            place,
+            last,
+            site,
+        };
+        Step::statement(waiting, statement, site)
+    } else {
+        Step::Ended(Ok(ended_with(last)))
+    }
+}
+
+/// Begins a block: where it declares something it has a scope of its own.
+#[tactic(auto, unfolding(script_meaning::specs::Statements::block_rule), using(crate::proofs::Growing::growing))]
+pub(crate) fn begin_block(
+    alloc: Global,
+    scripts: &Scripts,
+    heap: &mut Heap,
+    node: u32,
+    site: Site,
+) -> Step
+    requires { IsSoundSite heap.old site }
+    ensures step { Steps scripts.now result heap.old heap.new (λ at s. block_rule at ((form_at scripts.now site.script node).kids) site s) }
+    ensures grown { Grows heap.old heap.new }
+    ensures closed { IsClosed heap.old → IsClosed heap.new }
+    ensures sound { IsSoundStep heap.new result }
+{
+    let declared = match declarations_at(alloc, scripts, site.script, node) {
+        Ok(declared) => declared,
+        Err(_) => return Step::Ended(Err(Abrupt::NoMemory)),
+    };
+    if declared.len() == 0 {
+        return list_from(scripts, node, 0, None, site);
+    }
+    let Site {
+        script,
+        scope,
+        global,
+        receiver,
+    } = site;
+    match script_scopes::block_scope(alloc, heap, script, global, scope, &declared) {
+        Ok(scope) => {
+            let inside = Site {
+                script,
+                scope,
+                global,
+                receiver,
+            };
+            list_from(scripts, node, 0, None, inside)
+        }
+        Err(fail) => Step::Ended(Err(abrupt_of(fail))),
+    }
+}
+
+// ---- declarations
+
+/// Whether there is a name at the place, and a part, and the part is left out.
+fn is_left_out(scripts: &Scripts, node: u32, place: u32, site: Site) -> bool
+    ensures { IsTrue result ↔ (((kid place ((form_at scripts.now site.script node).kids)).head).kind ≡ Kind.Absent) }
+{
+    let initialiser = kid_at(scripts, site.script, node, place);
+    kind_at(scripts, site.script, initialiser) == Kind::Absent
+}
+
+/// The names of a `let` or `const` from a place on. A name without an initialiser gets undefined at once.
+#[tactic(auto, unfolding(crate::specs::After::after), using(crate::proofs::Growing::growing, crate::proofs::ListLemmas::declared))]
+pub(crate) fn declare_from(
+    scripts: &Scripts,
+    heap: &mut Heap,
+    node: u32,
+    place: u32,
+    site: Site,
+) -> Step
+    requires { IsSoundSite heap.old site }
+    ensures step { Steps scripts.now result heap.old heap.new (λ at s. declare_rule at (drop place ((form_at scripts.now site.script node).head).names) (kids_from place ((form_at scripts.now site.script node).kids)) site s) }
+    ensures grown { Grows heap.old heap.new }
+    ensures closed { IsClosed heap.old → IsClosed heap.new }
+    ensures sound { IsSoundStep heap.new result }
+{
+    if place >= kid_count_at(scripts, site.script, node) {
+        return Step::Ended(Ok(Ended::Empty));
+    }
+    match names_at(scripts, site.script, node).get(place as usize) {
+        None => Step::Ended(Ok(Ended::Empty)),
+        Some(name) => {
+            if is_left_out(scripts, node, place, site) {
+                js_scopes::initialise(heap, site.scope, name, Value::Undefined);
+                declare_from(scripts, heap, node, place + 1, site)
+            } else {
+                let initialiser = kid_at(scripts, site.script, node, place);
+                Step::value(Frame::Declarator { node, place, site }, initialiser, site)
+            }
+        }
+    }
+}
+
+/// Gives the name at the place its value, and goes on with the names behind it.
+#[tactic(auto, unfolding(crate::specs::After::after), using(crate::proofs::Growing::growing, crate::proofs::ListLemmas::declared))]
+pub(crate) fn declarator(
+    scripts: &Scripts,
+    heap: &mut Heap,
+    node: u32,
+    place: u32,
+    site: Site,
+    value: Value,
+) -> Step
+    requires site { IsSoundSite heap.old site }
+    requires value { IsSoundValue heap.old value }
+    ensures step { Steps scripts.now result heap.old heap.new (λ at s. after at scripts.now (Frame.Declarator node place site) (Ok (Ended.Value value), s)) }
+    ensures grown { Grows heap.old heap.new }
+    ensures closed { IsClosed heap.old → IsClosed heap.new }
+    ensures sound { IsSoundStep heap.new result }
+{
+    match names_at(scripts, site.script, node).get(place as usize) {
+        Some(name) => js_scopes::initialise(heap, site.scope, name, value),
+        None => return Step::Ended(Ok(Ended::Empty)),
+    }
+    declare_from(scripts, heap, node, place + 1, site)
+}
+
+// ---- choices and ends
+
+/// Begins `if`.
+#[tactic(auto, unfolding(crate::specs::After::after, script_meaning::specs::Statements::if_rule))]
+pub(crate) fn begin_if(scripts: &Scripts, node: u32, site: Site) -> Step
+    ensures step { Waits scripts.now result (λ at s. if_rule at ((form_at scripts.now site.script node).kids) site s) }
+    ensures sound { (s : Store) → IsSoundSite s site → IsSoundStep s result }
+{
+    let condition = kid_at(scripts, site.script, node, 0);
+    let good = kid_at(scripts, site.script, node, 1);
+    let bad = kid_at(scripts, site.script, node, 2);
+    Step::value(Frame::If { good, bad, site }, condition, site)
+}
+
+/// Goes on with the condition of an `if`.
+#[tactic(auto, unfolding(crate::specs::After::after))]
+pub(crate) fn if_chosen(
+    scripts: &Scripts,
+    heap: &Heap,
+    good: u32,
+    bad: u32,
+    site: Site,
+    condition: Value,
+) -> Step
+    requires { IsSoundValue heap.now condition }
+    ensures step { Steps scripts.now result heap.now heap.now (λ at s. after at scripts.now (Frame.If good bad site) (Ok (Ended.Value condition), s)) }
+    ensures sound { IsSoundSite heap.now site → IsSoundStep heap.now result }
+{
+    if truthy(heap, condition) {
+        return Step::statement(Frame::Filled, good, site);
+    }
+    match kind_at(scripts, site.script, bad) {
+        Kind::Absent => Step::Ended(Ok(Ended::Value(Value::Undefined))),
+        _ => Step::statement(Frame::Filled, bad, site),
+    }
+}
+
+/// Begins `return`.
+#[tactic(auto, unfolding(crate::specs::After::after, script_meaning::specs::Statements::return_rule))]
+pub(crate) fn begin_return(scripts: &Scripts, node: u32, site: Site) -> Step
+    ensures step { Waits scripts.now result (λ at s. return_rule at ((form_at scripts.now site.script node).kids) site s) }
+    ensures sound { (s : Store) → IsSoundSite s site → IsSoundStep s result }
+{
+    let value = kid_at(scripts, site.script, node, 0);
+    match kind_at(scripts, site.script, value) {
+        Kind::Absent => Step::Ended(Err(Abrupt::Return(Value::Undefined))),
+        _ => Step::value(Frame::Return, value, site),
+    }
+}
