@@ -125,6 +125,11 @@ unnamed [] place past = refl
 unnamed (name ∷ names) zero past = absurd (omega arith)
 unnamed (name ∷ names) (suc place) past = unnamed names place (omega arith)
 
+pub declared_behind : (at : Inside) (names : List (List ℕ)) (kids : Trees) (place : ℕ) (site : Site) (s : State) → kid_count kids ≤ place
+    → declare_rule at names (kids_from (suc place) kids) site s ≡ is_empty s
+declared_behind at names kids place site s past = declared_rest at names kids (suc place) site s (omega arith)
+
 pub ruleset declared = (declared_without)
 pub ruleset ends = (declared_all, declared_rest)
+pub ruleset behind = (declared_behind)
 pub ruleset named = (unnamed, get_or_from_slice_get)

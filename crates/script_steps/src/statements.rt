@@ -193,7 +193,7 @@ pub(crate) fn declare_from(
 }
 
 /// The names behind a place.
-#[tactic(auto, using(crate::proofs::ListLemmas::ends))]
+#[tactic(auto, using(crate::proofs::ListLemmas::behind))]
 fn declare_behind(scripts: &Scripts, heap: &mut Heap, node: u32, place: u32, site: Site) -> Step
     requires { IsSoundSite heap.old site }
     ensures step { Steps scripts.now result heap.old heap.new (λ at s. declare_rule at (drop (suc place) ((form_at scripts.now site.script node).head).names) (kids_from (suc place) ((form_at scripts.now site.script node).kids)) site s) }
