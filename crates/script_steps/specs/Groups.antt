@@ -48,3 +48,32 @@ BeginsInside kinds.FunctionExpr = ⊥
 BeginsInside kinds.Array = ⊥
 BeginsInside kinds.Object = ⊥
 BeginsInside _ = Unit {0}
+
+-- ---- frames
+
+-- the end of what stands inside may be abrupt and still not pass
+abbrev pub TakesAnyEnd : Frame → Type 0
+TakesAnyEnd frame.Body = Unit {0}
+TakesAnyEnd (frame.List _ _ _ _) = Unit {0}
+TakesAnyEnd frame.Filled = Unit {0}
+TakesAnyEnd _ = ⊥
+
+-- the form waits for a place
+abbrev pub TakesPlace : Frame → Type 0
+TakesPlace (frame.TypeOfPlace _) = Unit {0}
+TakesPlace (frame.AssignTarget _ _) = Unit {0}
+TakesPlace (frame.UpdateTarget _ _ _) = Unit {0}
+TakesPlace (frame.StepTarget _ _ _) = Unit {0}
+TakesPlace _ = ⊥
+
+-- the form waits for the operand of an operator, or for an operand that is all that it comes to
+abbrev pub TakesOperand : Frame → Type 0
+TakesOperand frame.Pass = Unit {0}
+TakesOperand (frame.Comma _ _) = Unit {0}
+TakesOperand (frame.Left _ _ _) = Unit {0}
+TakesOperand (frame.Right _ _) = Unit {0}
+TakesOperand (frame.Operand _) = Unit {0}
+TakesOperand frame.Void = Unit {0}
+TakesOperand (frame.Condition _ _ _) = Unit {0}
+TakesOperand (frame.Logical _ _ _) = Unit {0}
+TakesOperand _ = ⊥

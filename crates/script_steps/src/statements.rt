@@ -131,7 +131,14 @@ fn name_in<'a>(scripts: &'a Scripts, node: u32, place: u32, site: Site) -> Optio
 
 /// Gives the name at a place undefined, since its initialiser is left out.
 #[tactic(auto, using(crate::proofs::Growing::growing, crate::proofs::ListLemmas::declared))]
-fn leave_undefined(scripts: &Scripts, heap: &mut Heap, node: u32, place: u32, site: Site, name: &Units)
+fn leave_undefined(
+    scripts: &Scripts,
+    heap: &mut Heap,
+    node: u32,
+    place: u32,
+    site: Site,
+    name: &Units,
+)
     requires site { IsSoundSite heap.old site }
     requires name { slice_get ((form_at scripts.now site.script node).head).names place ≡ Some name.now }
     requires part { place < kid_count ((form_at scripts.now site.script node).kids) }
