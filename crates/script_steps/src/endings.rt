@@ -8,9 +8,9 @@ ghost use Rattle.script_meaning.specs.Places.{form_at};
 ghost use Rattle.script_steps.specs.After.{after, Waits};
 ghost use Rattle.script_steps.specs.Sound.{IsSoundEnd, IsSoundEnded, IsSoundSite, IsSoundStep};
 
-use crate::{Frame, Step};
 use crate::forms::kid_count_at;
 use crate::statements::{ended_with, latest, list_from, or_undefined};
+use crate::{Frame, Step};
 use charged_heap::Value;
 use js_syntax::Scripts;
 use script_meaning::{Abrupt, Ended, Site};
