@@ -1,4 +1,4 @@
-//! A hundred thousand numbers, and calls after them.
+//! Sixty-four isolates; a hundred thousand numbers, and calls after them.
 
 use crate::said::said_of_event;
 use crate::walk::{host_of, step};
@@ -38,5 +38,22 @@ fn after_the_last_number_a_call_leaves_nothing(rt: HostRuntime) -> Result<(), Fa
             "settle 99999: Own(Disposed)"
         );
     }
+    Ok(())
+}
+
+#[test]
+fn each_of_64_isolates_is_posted_to(rt: HostRuntime) -> Result<(), Fail> {
+    let alloc = rt.alloc();
+    let mut script = String::new(alloc);
+    for n in 0..64 {
+        script.push_str(&format!(in alloc; "isolate i{n} limit=1000\ncontext c{n} i{n}\n")?)?;
+    }
+    let mut host = host_of(alloc, &script)?;
+    for n in 0..64 {
+        assert_eq!(rt; step(alloc, &mut host)?.as_str(), "own");
+        let wanted = format!(in alloc; "post {n}: call {n} context in 1000000")?;
+        assert_eq!(rt; step(alloc, &mut host)?.as_str(), wanted.as_str());
+    }
+    assert_eq!(rt; step(alloc, &mut host)?.as_str(), "blocked");
     Ok(())
 }

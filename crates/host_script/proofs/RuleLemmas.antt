@@ -1,5 +1,5 @@
 -- Each command makes a sound draft of a sound one, or tells a fault of a line.
-use Rattle.std.proofs.Common.{◌≡◌, ℕ, ◌+◌, ◌<◌, ◌≤◌, ◌==◌, Bool, true, false, IsTrue, List, [], ◌∷◌, length, length-append, not, nat_le, nat_lt, suc, zero, drop, if◌then◌else◌, Option, Some, None, Ok, is_some, pos, neg_ℤ, codes, refl, ap, subst, arith}
+use Rattle.std.proofs.Common.{◌≡◌, ℕ, ◌+◌, ◌<◌, ◌≤◌, ◌==◌, ◌&&◌, Bool, true, false, IsTrue, List, [], ◌∷◌, length, length-append, not, nat_le, nat_lt, suc, zero, drop, if◌then◌else◌, Option, Some, None, Ok, is_some, pos, neg_ℤ, codes, refl, ap, subst, arith}
 use Rattle.std.specs.List.{join_with_byte}
 use Rattle.std.specs.Map.{lookup}
 use Rattle.std.specs.Option.{option_map, option_map_or, option_and_then}
@@ -17,16 +17,17 @@ use Rattle.host_syntax.specs.Whole.{is_call, context_of, MakesContext, IsCall, I
 use Rattle.host_script.specs.declared.commands.CommandWord.{CommandWord}
 use Rattle.host_script.specs.declared.commands.CommandWord.TheVariants.{Isolate as IsolateWord, Context as ContextWord, Eval as EvalWord, Get as GetWord, Set as SetWord, Dispose as DisposeWord, Wait as WaitWord}
 use Rattle.host_script.specs.declared.draft.Draft.{Draft}
-use Rattle.host_script.specs.declared.fault.HostKind.TheVariants.{TooLong, BadWords, BadName, NameTaken, BadLiteral}
+use Rattle.host_script.specs.declared.fault.HostKind.TheVariants.{TooLong, BadWords, BadName, NameTaken, BadNumber, BadLiteral}
 use Rattle.host_script.specs.declared.names.Named.{Named}
 use Rattle.host_script.specs.declared.names.Named.TheVariants.{Isolate, Context as ContextLabel, Call}
 use Rattle.host_script.specs.declared.text.Text.{Text}
 use Rattle.host_script.specs.declared.text.Text.TheVariants.{Missing, Open, Given}
-use Rattle.host_script.specs.Commands.{no_lines, cells_of, has_words, with_context, with_call, isolate_line, context_line, eval_text, eval_line, get_line, value_of, set_text, set_line, dispose_line, wait_line}
+use Rattle.host_script.specs.Commands.{no_lines, cells_of, has_words, with_context, with_call, limit_given, limit_of, isolate_line, context_line, eval_text, eval_line, get_line, value_of, set_text, set_line, dispose_line, wait_line}
 use Rattle.host_script.specs.Faults.{◌>>=◌, fail}
 use Rattle.host_script.specs.HostText.{command_line, command_of, can_have_text, unless_bad, with_text, with_command, with_line, with_lines, is_skipped}
 use Rattle.host_script.specs.Literals.{literal_of, plain_literal, negative, number_of, lone_word, skip_spaces}
 use Rattle.host_script.specs.Names.{named, new_name, isolate_among, context_among, call_among, isolate_named, context_named, call_named}
+use Rattle.host_script.specs.Options.{words_with, number_between}
 use Rattle.host_script.specs.Texts.{most_text, text_here, end_word, lines_until, first_bad, text_on, long_text, without_text, text_within, text_below, text_of}
 use Rattle.host_script.specs.Words.{word, word_count, after_word, is_name}
 use Rattle.host_script.proofs.WholeLemmas.{Holds, holds_if, holds_then, holds_found, IsSound, IsNew, IsMeant, found_holds, sound_none, sound_call, sound_wait, sound_isolate, get_pushed}
@@ -154,20 +155,38 @@ made_call draft label what call = (record { label = Some label; what = what }, l
     longer : length draft.script.commands < length (with_call draft label what).script.commands
     longer = omega (arith, length-append draft.script.commands ((record { label = Some label; what = what }) ∷ []))
 
+-- a limit that a line may give
+abbrev IsLimit : ℕ → Type 0
+IsLimit limit = (1000 ≤ limit) × (limit ≤ 4000000)
+
+number_holds : (n : ℕ) (value : List ℕ) → 1 ≤ n → Holds IsLimit (number_between 1000 4000000 n value)
+unfolding number_between
+number_holds n value some =
+    holds_found IsLimit (number_of value) _ (fail n BadNumber) (λ number found.
+    holds_if IsLimit (nat_le 1000 number && nat_le number 4000000) (Ok number) (fail n BadNumber) (both number) (λ _. some)) some
+  where
+    both : (number : ℕ) → (nat_le 1000 number && nat_le number 4000000) ≡ true → IsLimit number
+    both number e = grind (arith, nat_tests)
+
+limit_holds : (n : ℕ) (given : Option (List ℕ)) → 1 ≤ n → Holds IsLimit (limit_of n given)
+limit_holds n None some = (omega arith, omega arith)
+limit_holds n (Some value) some = number_holds n value some
+
 isolate_line_holds : (n : ℕ) (draft : Draft) (words : List ℕ) (text : Option (List ℕ)) → 1 ≤ n → IsSound draft → Holds IsSound (isolate_line n draft words text)
 unfolding isolate_line
 isolate_line_holds n draft words text some sound =
-    holds_if IsSound (not (has_words 1 words text)) _ _ (λ _. some) (λ _.
+    holds_if IsSound (not (has_words (words_with 1 (limit_given words)) words text)) _ _ (λ _. some) (λ _.
     holds_then (IsNew draft) IsSound (new_name n draft.names (word 0 words)) _ (new_name_holds n draft (word 0 words) some) (λ name new.
+    holds_then IsLimit IsSound (limit_of n (limit_given words)) _ (limit_holds n (limit_given words) some) (λ limit allowed.
     holds_if IsSound (nat_le 64 (length draft.script.isolates)) _ _ (λ _. some) (λ few.
-    holds_if IsSound (nat_lt 16000000 (cells_of draft.script + 1000000)) _ _ (λ _. some) (λ together.
-    sound_isolate draft name sound new (below few) (within together)))))
+    holds_if IsSound (nat_lt 16000000 (cells_of draft.script + limit)) _ _ (λ _. some) (λ together.
+    sound_isolate draft name limit sound new allowed (below few) (within limit together))))))
   where
     below : nat_le 64 (length draft.script.isolates) ≡ false → length draft.script.isolates < 64
     below e = grind (arith, nat_tests)
 
-    within : nat_lt 16000000 (cells_of draft.script + 1000000) ≡ false → cells_of draft.script + 1000000 ≤ 16000000
-    within e = grind (arith, nat_tests)
+    within : (limit : ℕ) → nat_lt 16000000 (cells_of draft.script + limit) ≡ false → cells_of draft.script + limit ≤ 16000000
+    within limit e = grind (arith, nat_tests)
 
 context_line_holds : (n : ℕ) (draft : Draft) (words : List ℕ) (text : Option (List ℕ)) → 1 ≤ n → IsSound draft → Holds IsSound (context_line n draft words text)
 unfolding context_line

@@ -225,10 +225,10 @@ names_of_wait : (script : HostScript) (what : What) → names_of (record script 
 names_of_wait script what =
     ap (λ l. map (λ (decl : IsolateDecl). decl.name) script.isolates ++ l) (labels_more script.commands None what ∙ append-nil (filter_map (λ (command : Command). command.label) script.commands))
 
-names_of_isolate : (draft : Draft) (name : List ℕ)
-    → names_of (with_isolate draft name).script ≡ (map (λ (decl : IsolateDecl). decl.name) draft.script.isolates ++ name ∷ []) ++ filter_map (λ (command : Command). command.label) draft.script.commands
-names_of_isolate draft name =
-    ap (λ l. l ++ filter_map (λ (command : Command). command.label) (with_isolate draft name).script.commands) (map_push (λ (decl : IsolateDecl). decl.name) draft.script.isolates (record { name = name; limit = 1000000 }))
+names_of_isolate : (draft : Draft) (name : List ℕ) (limit : ℕ)
+    → names_of (with_isolate draft name limit).script ≡ (map (λ (decl : IsolateDecl). decl.name) draft.script.isolates ++ name ∷ []) ++ filter_map (λ (command : Command). command.label) draft.script.commands
+names_of_isolate draft name limit =
+    ap (λ l. l ++ filter_map (λ (command : Command). command.label) (with_isolate draft name limit).script.commands) (map_push (λ (decl : IsolateDecl). decl.name) draft.script.isolates (record { name = name; limit = limit }))
     ∙ ap (λ l. (map (λ (decl : IsolateDecl). decl.name) draft.script.isolates ++ name ∷ []) ++ l)
     (labels_more draft.script.commands None Declare ∙ append-nil (filter_map (λ (command : Command). command.label) draft.script.commands))
 
@@ -278,23 +278,24 @@ sound_wait draft target sound names =
     absurd_of : {A : Type 0} → true ≡ false → A
     absurd_of h = absurd (cc)
 
-pub sound_isolate : (draft : Draft) (name : List ℕ) → IsSound draft → IsNew draft name → length draft.script.isolates < 64 → cells_of draft.script + 1000000 ≤ 16000000 → IsSound (with_isolate draft name)
-sound_isolate draft name sound new few together =
-    let decl : IsolateDecl = record { name = name; limit = 1000000 } in
+pub sound_isolate : (draft : Draft) (name : List ℕ) (limit : ℕ) → IsSound draft → IsNew draft name → (1000 ≤ limit) × (limit ≤ 4000000) → length draft.script.isolates < 64 → cells_of draft.script + limit ≤ 16000000
+    → IsSound (with_isolate draft name limit)
+sound_isolate draft name limit sound new within few together =
+    let decl : IsolateDecl = record { name = name; limit = limit } in
     let last : Command = record { label = None; what = Declare } in
     let one_more = length-append draft.script.isolates (decl ∷ []) in
     let grown : length draft.script.isolates ≤ length (draft.script.isolates ++ decl ∷ []) = omega (arith, one_more) in
-    let cells : sum (map (λ (d : IsolateDecl). d.limit) (draft.script.isolates ++ decl ∷ [])) ≡ cells_of draft.script + 1000000 =
-    ap sum (map_push (λ (d : IsolateDecl). d.limit) draft.script.isolates decl) ∙ sum_push (map (λ (d : IsolateDecl). d.limit) draft.script.isolates) 1000000 in
+    let cells : sum (map (λ (d : IsolateDecl). d.limit) (draft.script.isolates ++ decl ∷ [])) ≡ cells_of draft.script + limit =
+    ap sum (map_push (λ (d : IsolateDecl). d.limit) draft.script.isolates decl) ∙ sum_push (map (λ (d : IsolateDecl). d.limit) draft.script.isolates) limit in
     let kept = names_between draft (map (λ (d : IsolateDecl). d.name) draft.script.isolates) (filter_map (λ (command : Command). command.label) draft.script.commands)
-    (with_isolate draft name).script name (Isolate (length draft.script.isolates)) sound new refl (names_of_isolate draft name) in
+    (with_isolate draft name limit).script name (Isolate (length draft.script.isolates)) sound new refl (names_of_isolate draft name limit) in
     record {
       whole = whole_more draft.script.isolates (draft.script.isolates ++ decl ∷ []) draft.script.commands last grown sound.whole (omega (arith, one_more))
-          (all_push _ draft.script.isolates decl sound.whole.limits (omega arith, omega arith)) (omega (arith, cells))
+          (all_push _ draft.script.isolates decl sound.whole.limits within) (omega (arith, cells))
           ((λ called. absurd_of (sym called)), (λ _. refl)) tt;
       names = kept.0;
       distinct = kept.1;
-      listed = all_push (λ (e : List ℕ × Named). IsMeant (with_isolate draft name).script e.1) draft.names (name, Isolate (length draft.script.isolates))
+      listed = all_push (λ (e : List ℕ × Named). IsMeant (with_isolate draft name limit).script e.1) draft.names (name, Isolate (length draft.script.isolates))
           (all_weaker _ _ draft.names (λ e was. meant_kept draft.script.isolates (draft.script.isolates ++ decl ∷ []) draft.script.commands last grown e.1 was) sound.listed) (omega (arith, one_more));
       free = kept.2;
     }

@@ -1,6 +1,6 @@
 -- What each command adds to a host script, or its first fault behind those of its text.
 -- This project's own; docs/HOST.md, "Commands".
-use Rattle.std.specs.Prelude.{ℕ, ◌+◌, ◌==◌, ◌&&◌, Bool, List, [], ◌∷◌, ◌++◌, length, map, sum, not, nat_le, nat_lt, is_none, if◌then◌else◌, Option, None, Some, Result, Ok}
+use Rattle.std.specs.Prelude.{ℕ, ◌+◌, ◌==◌, ◌&&◌, Bool, List, [], ◌∷◌, ◌++◌, length, map, sum, codes, not, nat_le, nat_lt, is_none, if◌then◌else◌, Option, None, Some, Result, Ok}
 use Rattle.std.specs.Option.{option_map_or}
 use Rattle.ivm_text.specs.Text.{units_of}
 use Rattle.ivm_text.specs.declared.copies.Leaf.{Leaf}
@@ -18,6 +18,7 @@ use Rattle.host_script.specs.declared.names.Named.TheVariants.{Isolate, Context 
 use Rattle.host_script.specs.Faults.{◌>>=◌, fail}
 use Rattle.host_script.specs.Literals.{literal_of}
 use Rattle.host_script.specs.Names.{new_name, isolate_named, context_named, call_named}
+use Rattle.host_script.specs.Options.{given_to, words_with, number_between}
 use Rattle.host_script.specs.Words.{word, word_count}
 
 -- ---- limits
@@ -30,9 +31,17 @@ most_isolates = 64
 abbrev pub most_cells : ℕ
 most_cells = 16000000
 
--- the cells of one isolate
-abbrev pub cells : ℕ
-cells = 1000000
+-- the least limit, in cells, that one of them may have
+abbrev pub least_limit : ℕ
+least_limit = 1000
+
+-- the greatest limit that one of them may have
+abbrev pub most_limit : ℕ
+most_limit = 4000000
+
+-- the limit of one whose line gives none
+abbrev pub usual_limit : ℕ
+usual_limit = 1000000
 
 -- the ticks in which a text may run
 abbrev pub ticks : ℕ
@@ -48,11 +57,11 @@ no_lines = record { script = record { isolates = []; commands = [] }; names = []
 abbrev pub cells_of : HostScript → ℕ
 cells_of script = sum (map (λ (decl : IsolateDecl). decl.limit) script.isolates)
 
--- an isolate is declared
-abbrev pub with_isolate : Draft → List ℕ → Draft
-with_isolate draft name = record {
+-- an isolate is declared, with this limit in cells
+abbrev pub with_isolate : Draft → List ℕ → ℕ → Draft
+with_isolate draft name limit = record {
   script = record {
-    isolates = draft.script.isolates ++ (record { name = name; limit = cells }) ∷ [];
+    isolates = draft.script.isolates ++ (record { name = name; limit = limit }) ∷ [];
     commands = draft.script.commands ++ (record { label = None; what = Declare }) ∷ [];
   };
   names = draft.names ++ (name, Isolate (length draft.script.isolates)) ∷ [];
@@ -85,14 +94,23 @@ with_wait draft target = record draft {
 abbrev pub has_words : ℕ → List ℕ → Option (List ℕ) → Bool
 has_words count words text = word_count words == count && is_none text
 
--- `isolate NAME`
+-- what the word behind the name gives to `limit`; none where it is no such option
+abbrev pub limit_given : List ℕ → Option (List ℕ)
+limit_given words = given_to (codes "limit=") (word 1 words)
+
+-- the limit of an isolate on line n, by what is given
+abbrev pub limit_of : ℕ → Option (List ℕ) → Result ℕ HostFault
+limit_of n given = option_map_or (number_between least_limit most_limit n) given (Ok usual_limit)
+
+-- `isolate NAME`, `isolate NAME limit=N`
 unfoldable pub isolate_line : ℕ → Draft → List ℕ → Option (List ℕ) → Result Draft HostFault
 isolate_line n draft words text =
-    if not (has_words 1 words text) then fail n BadWords
+    if not (has_words (words_with 1 (limit_given words)) words text) then fail n BadWords
     else (new_name n draft.names (word 0 words) >>= λ name.
+    limit_of n (limit_given words) >>= λ limit.
     if nat_le most_isolates (length draft.script.isolates) then fail n TooManyIsolates
-    else if nat_lt most_cells (cells_of draft.script + cells) then fail n TotalCells
-    else Ok (with_isolate draft name))
+    else if nat_lt most_cells (cells_of draft.script + limit) then fail n TotalCells
+    else Ok (with_isolate draft name limit))
 
 -- `context LABEL ISOLATE`
 unfoldable pub context_line : ℕ → Draft → List ℕ → Option (List ℕ) → Result Draft HostFault

@@ -3,6 +3,7 @@ pub mod Faults
 pub mod HostText
 pub mod Literals
 pub mod Names
+pub mod Options
 pub mod Script
 pub mod Steps
 pub mod Texts

@@ -1,14 +1,16 @@
 //! The commands, each in one function.
-ghost use Rattle.std.specs.Prelude.{◌≡◌, IfOk};
+ghost use Rattle.std.specs.Prelude.{◌≡◌, ◌≤◌, IfOk};
+ghost use Rattle.std.specs.Option.{option_copied};
 ghost use Rattle.std.specs.Str.{IsUtf8};
 ghost use Rattle.ivm_text.specs.Text.{units_of};
 ghost use Rattle.host_script.specs.Faults.{Gives};
-ghost use Rattle.host_script.specs.Commands.{isolate_line, context_line, eval_line, get_line, set_line, dispose_line, wait_line};
+ghost use Rattle.host_script.specs.Commands.{limit_of, isolate_line, context_line, eval_line, get_line, set_line, dispose_line, wait_line};
 ghost use Rattle.host_script.specs.HostText.{command_of, can_have_text, command_line};
 
-use crate::draft::{CELLS, Draft};
+use crate::draft::Draft;
 use crate::fault::at;
 use crate::literal::literal;
+use crate::options::{given_to, number_between, words_with};
 use crate::words::words_of;
 use crate::{HostArgument, HostFault, HostKind, What};
 use item_list::Items;
@@ -18,6 +20,12 @@ use std::alloc::Global;
 const MOST_ISOLATES: u32 = 64;
 
 const MOST_CELLS: u64 = 16_000_000;
+
+const LEAST_LIMIT: u32 = 1_000;
+
+const MOST_LIMIT: u32 = 4_000_000;
+
+const USUAL_LIMIT: u32 = 1_000_000;
 
 const TICKS: u32 = 1_000_000;
 
@@ -89,6 +97,17 @@ fn key_of(alloc: Global, word: &[u8]) -> Result<Units, NoMemory>
     }
 }
 
+// The limit of an isolate in cells, by what its line gives.
+fn limit_of(line: u32, given: Option<&[u8]>) -> Result<u32, HostFault>
+    ensures gives { Gives (λ limit. limit) result (limit_of line (option_copied given.entry)) }
+    ensures within { IfOk result (λ limit. limit ≤ 4000000) }
+{
+    match given {
+        Some(value) => number_between(LEAST_LIMIT, MOST_LIMIT, line, value),
+        None => Ok(USUAL_LIMIT),
+    }
+}
+
 impl Draft {
     // Adds a command, of which these words and this text stand behind its first word.
     #[tactic(auto, unfolding(crate::specs::HostText::command_line))]
@@ -114,7 +133,7 @@ impl Draft {
         }
     }
 
-    // `isolate NAME`
+    // `isolate NAME`, `isolate NAME limit=N`
     #[tactic(auto, unfolding(crate::specs::Commands::isolate_line))]
     fn isolate(
         &mut self,
@@ -126,17 +145,19 @@ impl Draft {
         ensures { Gives (λ _. self.new) result (isolate_line number self.old words.now text) }
     {
         let words = words_of(words);
-        if words.count != 1 || text.is_some() {
+        let given = given_to(b"limit=", words.second);
+        if words.count != words_with(1, given) || text.is_some() {
             return Err(at(number, HostKind::BadWords));
         }
         let name = self.names.new_name(alloc, number, words.first)?;
+        let limit = limit_of(number, given)?;
         if self.script.isolates.len() >= MOST_ISOLATES {
             return Err(at(number, HostKind::TooManyIsolates));
         }
-        if self.cells() > MOST_CELLS - CELLS as u64 {
+        if self.cells() > MOST_CELLS - limit as u64 {
             return Err(at(number, HostKind::TotalCells));
         }
-        self.add_isolate(alloc, name)
+        self.add_isolate(alloc, name, limit)
     }
 
     // `context LABEL ISOLATE`

@@ -19,9 +19,6 @@ use item_list::{CloneWhole, Items};
 use ivm_text::{Bytes, Units};
 use std::alloc::Global;
 
-// What each isolate may have.
-pub(crate) const CELLS: u32 = 1_000_000;
-
 // The script so far, and the names that it has given.
 #[derive(Drop)]
 pub(crate) struct Draft {
@@ -84,17 +81,20 @@ impl Draft {
             .sum()
     }
 
-    // Adds an isolate.
-    pub(crate) fn add_isolate(&mut self, alloc: Global, name: Units) -> Result<(), HostFault>
+    // Adds an isolate with this limit in cells.
+    pub(crate) fn add_isolate(
+        &mut self,
+        alloc: Global,
+        name: Units,
+        limit: u32,
+    ) -> Result<(), HostFault>
         requires { named name self.old.names ≡ None }
-        ensures { Gives (λ _. self.new) result (Ok (with_isolate self.old name)) }
+        ensures { Gives (λ _. self.new) result (Ok (with_isolate self.old name limit)) }
     {
         let isolate = self.script.isolates.len();
         self.names
             .enter(name.clone_whole(alloc)?, Named::Isolate(isolate))?;
-        self.script
-            .isolates
-            .push(IsolateDecl { name, limit: CELLS })?;
+        self.script.isolates.push(IsolateDecl { name, limit })?;
         self.script.commands.push(Command {
             label: None,
             what: What::Declare,

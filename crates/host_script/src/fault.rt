@@ -36,7 +36,7 @@ pub enum HostKind {
     /// The name that is used stands for a thing of another kind.
     #[error("WrongKind")]
     WrongKind,
-    /// The value of an option isn't a number in its range. No command has an option yet, so this never comes.
+    /// The value of `limit` isn't a decimal number from 1,000 to 4,000,000 without a superfluous zero.
     #[error("BadNumber")]
     BadNumber,
     /// The text of a `set` isn't one primitive literal.

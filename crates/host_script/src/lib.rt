@@ -13,6 +13,7 @@ mod lines;
 mod literal;
 mod long_text;
 mod names;
+mod options;
 mod read;
 mod text;
 mod words;

@@ -73,7 +73,7 @@ fn read_digit(n: u64, digit: u8) -> Option<u64>
 
 // The number that digits write, none of them superfluous.
 #[tactic(auto, unfolding(crate::specs::Literals::number_of))]
-fn number(digits: &[u8]) -> Option<u64>
+pub(crate) fn number(digits: &[u8]) -> Option<u64>
     ensures value { result ≡ number_of digits.now }
     ensures within { IfSome result (λ n. n ≤ most_number) }
 {

@@ -23,16 +23,19 @@ const MOST_BYTES: usize = 4_194_304;
 /// - `BadUtf8`: the line isn't UTF-8.
 /// - `UnknownCommand`: the first word isn't a command.
 /// - `OpenText`: a text begins with `<<W`, and no later line is equal to `W`.
-/// - `BadWords`: a wrong number of words, a text that is missing, or one that isn't wanted.
+/// - `BadWords`: a wrong number of words, a word where an option may stand that is none or gives the same
+///   one again, a text that is missing, or one that isn't wanted.
 /// - `BadName`: the name of a new isolate, or a new label, hasn't the form of a name.
 /// - `NameTaken`: an earlier line gave that name.
 /// - `UnknownName`: no earlier line gave the name that is used.
 /// - `WrongKind`: the name that is used is an isolate's, a context's or another call's where one of
 ///   another kind is wanted.
-/// - `BadNumber`: never, since no command has an option yet.
+/// - `BadNumber`: what is given to `limit` isn't a decimal number from 1,000 to 4,000,000 without a
+///   superfluous zero.
 /// - `BadLiteral`: the text of a `set` isn't one primitive literal.
 /// - `TooManyIsolates`: it is the 65th `isolate`.
-/// - `TotalCells`: the limits of the isolates so far, together, pass 16,000,000 cells.
+/// - `TotalCells`: the limits of the isolates so far, together, pass 16,000,000 cells; one whose line gives
+///   no limit has 1,000,000.
 ///
 /// `NoMemory` comes at any script, as memory runs out.
 ///

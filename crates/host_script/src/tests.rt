@@ -81,7 +81,7 @@ fn describe_more(alloc: Global, lines: &[u8]) -> Result<String, Fail> {
 #[test]
 fn lines_and_names(rt: HostRuntime) -> Result<(), Fail> {
     let alloc = rt.alloc();
-    let rows: [(&[u8], &str); 24] = [
+    let rows: [(&[u8], &str); 23] = [
         (b"", ""),
         (b"\n \t\n # x\n\t#", ""),
         (b"isolate a", "a|-|"),
@@ -89,7 +89,6 @@ fn lines_and_names(rt: HostRuntime) -> Result<(), Fail> {
         (b"isolate a\r\n\r\ncontext c a\r\n", "a|-|c@0|"),
         (b"\nisolate", "line 2: BadWords"),
         (b"isolate a b", "line 1: BadWords"),
-        (b"isolate a limit=1000", "line 1: BadWords"),
         (b"isolate limit=1000", "line 1: BadName"),
         (b"isolate 1a", "line 1: BadName"),
         (b"isolate _a", "line 1: BadName"),
@@ -317,8 +316,11 @@ fn wrong_names(rt: HostRuntime) -> Result<(), Fail> {
 #[test]
 fn two_kinds_on_one_line(rt: HostRuntime) -> Result<(), Fail> {
     let alloc = rt.alloc();
-    let rows: [(&[u8], &str); 17] = [
+    let rows: [(&[u8], &str); 20] = [
         (b"nothing \xff", "line 3: BadUtf8"),
+        (b"isolate 1b limit=1 x", "line 3: BadWords"),
+        (b"isolate 1b limit=1", "line 3: BadName"),
+        (b"isolate a limit=1", "line 3: NameTaken"),
         (b"eval x c : \xff", "line 3: BadUtf8"),
         (b"eval x c y : \xff", "line 3: BadUtf8"),
         (b"eval \xff c : 1", "line 3: BadUtf8"),
@@ -539,29 +541,143 @@ fn scripts_that_are_too_long(rt: HostRuntime) -> Result<(), Fail> {
     Ok(())
 }
 
-// A script of this many isolates.
-fn isolates(alloc: Global, count: u32) -> Result<Vec<u8>, Fail> {
+// What an `isolate` of which this stands behind its name makes, or its fault, behind an isolate and a context.
+fn describe_limit(alloc: Global, behind: &[u8]) -> Result<String, Fail> {
+    let mut bytes = b"isolate a\ncontext c a\nisolate b".to_vec(alloc)?;
+    bytes.extend_from_slice(behind)?;
+    let script = match read_host(alloc, &bytes) {
+        Ok(script) => script,
+        Err(fault) => return Ok(format!(in alloc; "{fault}")?),
+    };
+    match script.isolates.get(1) {
+        Some(decl) => Ok(format!(in alloc; "{}", decl.limit)?),
+        None => Ok(String::new(alloc)),
+    }
+}
+
+#[test]
+fn limits(rt: HostRuntime) -> Result<(), Fail> {
+    let alloc = rt.alloc();
+    let rows: [(&[u8], &str); 36] = [
+        (b"", "1000000"),
+        (b" limit=1000", "1000"),
+        (b"\t limit=1001\t\r\n", "1001"),
+        (b" limit=3999999", "3999999"),
+        (b" limit=4000000", "4000000"),
+        (b" limit=999", "line 3: BadNumber"),
+        (b" limit=0", "line 3: BadNumber"),
+        (b" limit=4000001", "line 3: BadNumber"),
+        (b" limit=10000000", "line 3: BadNumber"),
+        // 1,000 more than 2^32 and than 2^64
+        (b" limit=4294968296", "line 3: BadNumber"),
+        (b" limit=18446744073709552616", "line 3: BadNumber"),
+        (b" limit=01000", "line 3: BadNumber"),
+        (b" limit=+1000", "line 3: BadNumber"),
+        (b" limit=-1000", "line 3: BadNumber"),
+        (b" limit=", "line 3: BadNumber"),
+        (b" limit==1000", "line 3: BadNumber"),
+        (b" limit=1,000", "line 3: BadNumber"),
+        (b" limit=1000.", "line 3: BadNumber"),
+        (b" limit=0x3e8", "line 3: BadNumber"),
+        (b" limit=1e3", "line 3: BadNumber"),
+        (b" limit=\xd9\xa1000", "line 3: BadNumber"),
+        (b" limit=1000\r", "line 3: BadNumber"),
+        (b" limit", "line 3: BadWords"),
+        (b" limit =1000", "line 3: BadWords"),
+        (b" limit= 1000", "line 3: BadWords"),
+        (b" Limit=1000", "line 3: BadWords"),
+        (b" limits=1000", "line 3: BadWords"),
+        (b" xlimit=1000", "line 3: BadWords"),
+        (b" =1000", "line 3: BadWords"),
+        (b" 1000", "line 3: BadWords"),
+        (b" timeout=1000", "line 3: BadWords"),
+        (b" limit=1000 limit=1000", "line 3: BadWords"),
+        (b" limit=999 x", "line 3: BadWords"),
+        (b" x limit=1000", "line 3: BadWords"),
+        (b" limit=1000 : 1", "line 3: BadWords"),
+        (b" limit=\xff", "line 3: BadUtf8"),
+    ];
+    for (behind, wanted) in &rows {
+        let said = describe_limit(alloc, behind)?;
+        assert_eq!(rt; said.as_str(), *wanted);
+    }
+    Ok(())
+}
+
+// A script of this many isolates, each with this behind its name.
+fn isolates(alloc: Global, count: u32, behind: &str) -> Result<Vec<u8>, Fail> {
     let mut bytes = Vec::new(alloc);
     for number in 0..count {
-        let line = format!(in alloc; "isolate i{number}\n")?;
+        let line = format!(in alloc; "isolate i{number}{behind}\n")?;
         bytes.extend_from_slice(line.as_bytes())?;
     }
     Ok(bytes)
 }
 
+// The fault of a line behind so many isolates, or that there is none.
+fn fault_behind(alloc: Global, count: u32, behind: &str, line: &[u8]) -> Result<String, Fail> {
+    let mut bytes = isolates(alloc, count, behind)?;
+    bytes.extend_from_slice(line)?;
+    match read_host(alloc, &bytes) {
+        Ok(_) => Ok(String::from_str(alloc, "none")?),
+        Err(fault) => Ok(format!(in alloc; "{fault}")?),
+    }
+}
+
 #[test]
 fn many_isolates(rt: HostRuntime) -> Result<(), Fail> {
     let alloc = rt.alloc();
-    let script = read_host(alloc, &isolates(alloc, 16)?)?;
-    assert_eq!(rt; script.isolates.len(), 16);
-    for count in [17, 64, 65] {
-        let more = describe(alloc, &isolates(alloc, count)?)?;
-        assert_eq!(rt; more.as_str(), "line 17: TotalCells");
+    let rows: [(u32, &str, &[u8], &str); 19] = [
+        (16, "", b"", "none"),
+        (17, "", b"", "line 17: TotalCells"),
+        (64, "", b"", "line 17: TotalCells"),
+        (16, "", b"isolate b limit=1000", "line 17: TotalCells"),
+        (16, "", b"isolate b limit=999", "line 17: BadNumber"),
+        (16, "", b"isolate i3", "line 17: NameTaken"),
+        (15, "", b"isolate b limit=1000001", "line 16: TotalCells"),
+        (15, "", b"isolate b limit=1000000", "none"),
+        (
+            15,
+            "",
+            b"isolate b limit=999000\nisolate d limit=1000",
+            "none",
+        ),
+        (
+            15,
+            "",
+            b"isolate b limit=999001\nisolate d limit=1000",
+            "line 17: TotalCells",
+        ),
+        (4, " limit=4000000", b"", "none"),
+        (5, " limit=4000000", b"", "line 5: TotalCells"),
+        (64, " limit=1000", b"", "none"),
+        (65, " limit=1000", b"", "line 65: TooManyIsolates"),
+        (64, " limit=1000", b"isolate b", "line 65: TooManyIsolates"),
+        (
+            64,
+            " limit=1000",
+            b"isolate b limit=1",
+            "line 65: BadNumber",
+        ),
+        (
+            64,
+            " limit=1000",
+            b"isolate i3 limit=1",
+            "line 65: NameTaken",
+        ),
+        (64, " limit=250000", b"", "none"),
+        // 64 isolates with all the cells that there are, and one more of each
+        (
+            64,
+            " limit=250000",
+            b"isolate b",
+            "line 65: TooManyIsolates",
+        ),
+    ];
+    for (count, behind, line, wanted) in &rows {
+        let said = fault_behind(alloc, *count, behind, line)?;
+        assert_eq!(rt; said.as_str(), *wanted);
     }
-    let mut bytes = isolates(alloc, 16)?;
-    bytes.extend_from_slice(b"isolate i3\n")?;
-    let taken = describe(alloc, &bytes)?;
-    assert_eq!(rt; taken.as_str(), "line 17: NameTaken");
     Ok(())
 }
 

@@ -173,14 +173,30 @@ fn scripts_are_reported(rt: HostRuntime) -> Result<(), Fail> {
     Ok(())
 }
 
-static FAULTS: [(&str, &str); 20] = [
+static FAULTS: [(&str, &str); 33] = [
     ("frobnicate x", "1: UnknownCommand"),
     ("isolate", "1: BadWords"),
     ("isolate 9a", "1: BadName"),
     ("isolate a\nisolate a", "2: NameTaken"),
     ("context c a", "1: UnknownName"),
     ("isolate a\ncontext c a\ncontext d c", "3: WrongKind"),
-    ("isolate a limit=999", "1: BadWords"),
+    ("isolate a limit=999", "1: BadNumber"),
+    (
+        "isolate a\ncontext c a\nisolate b limit=999",
+        "3: BadNumber",
+    ),
+    ("isolate a limit=01000", "1: BadNumber"),
+    ("isolate a limit=4000001", "1: BadNumber"),
+    ("isolate a limit=+1000", "1: BadNumber"),
+    ("isolate a limit=", "1: BadNumber"),
+    ("isolate a limit", "1: BadWords"),
+    ("isolate a limit=1000 limit=1000", "1: BadWords"),
+    ("isolate a Limit=1000", "1: BadWords"),
+    ("isolate a limit=1000 x", "1: BadWords"),
+    ("isolate limit=1000 a", "1: BadWords"),
+    ("isolate limit=1000", "1: BadName"),
+    ("isolate 9a limit=999", "1: BadName"),
+    ("isolate a\nisolate a limit=999", "2: NameTaken"),
     ("isolate a\ncontext c a\neval x c", "3: BadWords"),
     ("isolate a\ncontext c a\neval x c <<E\n1 + 1", "3: OpenText"),
     (
@@ -237,21 +253,50 @@ fn a_script_has_at_most_4194304_bytes(rt: HostRuntime) -> Result<(), Fail> {
     Ok(())
 }
 
+// How many isolates there are, the option of each, the lines behind them, and the fault, where there is one.
+static TOGETHER: [(u32, &str, &str, &str); 13] = [
+    (16, "", "", ""),
+    (17, "", "", "17: TotalCells"),
+    (65, "", "", "17: TotalCells"),
+    (16, "", "isolate b limit=1000\n", "17: TotalCells"),
+    (15, "", "isolate b limit=1000001\n", "16: TotalCells"),
+    (15, "", "isolate b limit=999000\nisolate d limit=1000\n", ""),
+    (
+        15,
+        "",
+        "isolate b limit=999001\nisolate d limit=1000\n",
+        "17: TotalCells",
+    ),
+    (4, " limit=4000000", "", ""),
+    (5, " limit=4000000", "", "5: TotalCells"),
+    (64, " limit=1000", "", ""),
+    (65, " limit=1000", "", "65: TooManyIsolates"),
+    (64, " limit=250000", "", ""),
+    // no cell is left for the 65th either
+    (65, " limit=250000", "", "65: TooManyIsolates"),
+];
+
 #[test]
-fn isolates_have_at_most_16000000_cells_together(rt: HostRuntime) -> Result<(), Fail> {
-    let mut script = String::new(rt.alloc());
-    let mut report = String::new(rt.alloc());
-    for n in 0..16 {
-        script.push_str(&format!(in rt.alloc(); "isolate i{n}\ncontext c{n} i{n}\n")?)?;
-        report.push_str(&format!(in rt.alloc(); "c{n}: context\n")?)?;
+fn isolates_are_limited_in_number_and_in_cells(rt: HostRuntime) -> Result<(), Fail> {
+    let alloc = rt.alloc();
+    for (count, option, lines, fault) in TOGETHER {
+        let mut script = String::new(alloc);
+        for n in 0..count {
+            script.push_str(&format!(in alloc; "isolate i{n}{option}\n")?)?;
+        }
+        script.push_str(lines)?;
+        let mut report = String::new(alloc);
+        for n in 0..count {
+            script.push_str(&format!(in alloc; "context c{n} i{n}\neval x{n} c{n} : {n}\n")?)?;
+            report.push_str(&format!(in alloc; "c{n}: context\nx{n}: value {n}\n")?)?;
+        }
+        if fault.is_empty() {
+            assert!(rt; tells(&rt, &script, Status::Done, &report)?, "at {script}");
+        } else {
+            let text = format!(in alloc; "bad host script: line {fault}\n")?;
+            assert!(rt; tells(&rt, &script, Status::BadHost, &text)?, "at {script}");
+        }
     }
-    assert!(rt; tells(&rt, &script, Status::Done, &report)?);
-    // 64 isolates, and a 65th
-    for n in 16..65 {
-        script.push_str(&format!(in rt.alloc(); "isolate i{n}\n")?)?;
-    }
-    let text = "bad host script: line 33: TotalCells\n";
-    assert!(rt; tells(&rt, &script, Status::BadHost, text)?);
     Ok(())
 }
 
