@@ -8,10 +8,10 @@ use Rattle.charged_heap.specs.declared.values.Value.TheVariants as value
 use Rattle.js_scopes.specs.Scopes.{initialised}
 use Rattle.script_trees.specs.declared.declaration.Declaration.{Declaration}
 use Rattle.script_trees.specs.declared.declaration.Declaration.TheVariants.{Variable, Constant, Function}
-use Rattle.script_scopes.specs.Ends.{Ends, Meets, and_then, item_made}
+use Rattle.script_scopes.specs.Ends.{Meets, and_then, item_made}
 use Rattle.script_scopes.specs.Lists.{function_item, functions_made}
 use Rattle.script_scopes.specs.Steps.{function_made}
-use Rattle.script_scopes.proofs.Sequences.{and_then_then, went_on, stopped}
+use Rattle.script_scopes.proofs.Sequences.{and_then_then, stopped}
 
 functions_first : (script global scope : ℕ) (one : Declaration) (more : List Declaration) (s : Store)
     → and_then (function_made script global scope one s) (λ _ after. functions_made script global scope more after)

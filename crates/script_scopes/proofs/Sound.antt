@@ -1,20 +1,15 @@
--- What new scopes and functions hold is sound, and making a scope throws nothing.
-use Rattle.std.proofs.Common.{◌≡◌, ◌≢◌, ◌∙◌, ℕ, ◌<◌, Bool, true, false, List, [], ◌∷◌, ◌++◌, Option, Some, None, Result, Ok, Err, length, refl, ap, sym, subst, arith}
+-- What a new scope holds is sound, and making a scope throws nothing.
+use Rattle.std.proofs.Common.{◌≡◌, ℕ, Bool, true, false, List, [], ◌∷◌, ◌++◌, Option, Result, Ok, Err, length, ap, arith}
 use Rattle.std.specs.Prelude.{◌+◌, min, is_some, nat_le, IfErr, if◌then◌else◌}
 use Rattle.std.specs.List.{All}
 use Rattle.std.proofs.lemmas.List.Elements.{All-append, All-cons}
 use Rattle.charged_heap.specs.Price.{charge_of, price_of}
-use Rattle.charged_heap.specs.Store.{Store, IsAt, IsPlain, item_at, kind_of, with_more}
-use Rattle.charged_heap.specs.Growth.{Grows}
-use Rattle.charged_heap.specs.Closed.{IsHeld, IsSoundBinding, IsSoundValue}
+use Rattle.charged_heap.specs.Store.{Store, with_more}
+use Rattle.charged_heap.specs.Closed.{IsSoundBinding}
 use Rattle.charged_heap.specs.declared.price.TheConstants.{GREATEST_TOLD}
 use Rattle.charged_heap.specs.declared.fault.Fail.{Fail}
 use Rattle.charged_heap.specs.declared.fault.Fail.TheVariants.{Throw, Over, NoMemory}
-use Rattle.charged_heap.specs.declared.item.ItemKind.{ItemKind}
-use Rattle.charged_heap.specs.declared.item.ItemKind.TheVariants as kind
 use Rattle.charged_heap.specs.declared.values.Binding.{Binding}
-use Rattle.charged_heap.specs.declared.values.Value.{Value}
-use Rattle.charged_heap.specs.declared.values.Value.TheVariants as value
 use Rattle.js_scopes.specs.Bindings.{place_of, new_binding, with_new}
 use Rattle.js_scopes.specs.Scopes.{scope_made, scope_with, ScopeOutcome}
 use Rattle.script_trees.specs.declared.declaration.Declaration.{Declaration}
@@ -78,14 +73,5 @@ scope_throws_nothing parent bindings s t (Err (Throw v)) meets =
     by true e = let made : ◌≡◌ {A = Result ℕ Fail} (Ok (length s.items)) (Err (Throw v)) = ap (λ (p : ScopeOutcome). p.0) e in cc
     by false e =
         let refused : ◌≡◌ {A = Result ℕ Fail} (Err (Over (charge_of s.items) (min (price_of (scope_with parent bindings)) GREATEST_TOLD) s.limit)) (Err (Throw v))
-            = ap (λ (p : ScopeOutcome). p.0) e in
+        = ap (λ (p : ScopeOutcome). p.0) e in
         cc
-
--- ---- values
-
-plain_is_held : (one : ItemKind) → IsPlain one → IsHeld one
-plain_is_held kind.Plain is = tt
-plain_is_held _ is = absurd is
-
-pub object_sound : (s : Store) (n : ℕ) → IsAt IsPlain s n → IsSoundValue s (value.Item n)
-object_sound s n at = record { there = at.there; fits = plain_is_held (kind_of (item_at s n)) at.fits }

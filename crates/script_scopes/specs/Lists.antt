@@ -1,8 +1,7 @@
 -- The names that a list of statements binds in its scope, and the functions that are made there.
 -- ECMA-262, FunctionDeclarationInstantiation and BlockDeclarationInstantiation; docs/SCRIPTS.md, "Names and scopes".
-use Rattle.std.specs.Prelude.{ℕ, List, [], ◌∷◌, Option, Some, None, Result, Ok, Err, true, false}
+use Rattle.std.specs.Prelude.{ℕ, List, [], ◌∷◌, Some, Ok, true, false}
 use Rattle.charged_heap.specs.Store.{Store}
-use Rattle.charged_heap.specs.declared.fault.Fail.{Fail}
 use Rattle.charged_heap.specs.declared.item.Item.{Item}
 use Rattle.charged_heap.specs.declared.item.Item.TheVariants as item
 use Rattle.charged_heap.specs.declared.values.Binding.{Binding}
@@ -41,7 +40,7 @@ functions_made script global scope (Variable name ∷ more) s = functions_made s
 functions_made script global scope (Constant name ∷ more) s = functions_made script global scope more s
 functions_made script global scope (Function name node ∷ more) s =
     and_then (item_made (function_item script node scope global) s)
-      (λ n after. functions_made script global scope more (initialised after scope name (value.Item n)))
+    (λ n after. functions_made script global scope more (initialised after scope name (value.Item n)))
 
 -- ---- scopes
 
@@ -49,7 +48,7 @@ functions_made script global scope (Function name node ∷ more) s =
 unfoldable pub block_scope : ℕ → ℕ → ℕ → List Declaration → Store → Ends ℕ
 block_scope script global parent declared s =
     and_then (scope_made (Some parent) (with_declared [] declared) s)
-      (λ scope after. functions_made script global scope declared after)
+    (λ scope after. functions_made script global scope declared after)
 
 -- the parameters get the arguments in order, and undefined where there are no more; further arguments are dropped
 abbrev pub with_arguments : ℕ → List (List ℕ) → List Value → Store → Store
@@ -61,7 +60,7 @@ with_arguments scope (name ∷ names) (v ∷ arguments) s = with_arguments scope
 unfoldable pub call_scope : ℕ → ℕ → ℕ → List (List ℕ) → List Declaration → List Value → Store → Ends ℕ
 call_scope script global parent parameters declared arguments s =
     and_then (scope_made (Some parent) (with_declared (with_parameters [] parameters) declared) s)
-      (λ scope after. functions_made script global scope declared (with_arguments scope parameters arguments after))
+    (λ scope after. functions_made script global scope declared (with_arguments scope parameters arguments after))
 
 -- a scope of one name that can't change, for a function expression's own name
 unfoldable pub name_scope : ℕ → List ℕ → Store → Ends ℕ

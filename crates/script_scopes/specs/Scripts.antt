@@ -1,12 +1,10 @@
 -- What is looked at and declared before a script runs.
 -- ECMA-262, GlobalDeclarationInstantiation; docs/SCRIPTS.md, "Names and scopes".
-use Rattle.std.specs.Prelude.{ℕ, ◌+◌, min, List, [], ◌∷◌, Option, Some, None, Result, Ok, Err, Bool, true, false, nat_le, if◌then◌else◌}
+use Rattle.std.specs.Prelude.{ℕ, ◌+◌, min, List, [], ◌∷◌, Option, Some, None, Ok, Err, Bool, true, false, nat_le, if◌then◌else◌}
 use Rattle.charged_heap.specs.Price.{charge_of}
 use Rattle.charged_heap.specs.Store.{Store, item_at, with_item, with_binding, with_function}
 use Rattle.charged_heap.specs.declared.price.TheConstants.{BINDING_CELLS, GREATEST_TOLD}
-use Rattle.charged_heap.specs.declared.fault.Fail.{Fail}
 use Rattle.charged_heap.specs.declared.fault.Fail.TheVariants.{Over}
-use Rattle.charged_heap.specs.declared.values.Value.{Value}
 use Rattle.charged_heap.specs.declared.values.Value.TheVariants as value
 use Rattle.js_members.specs.Writes.{write_outcome}
 use Rattle.js_scopes.specs.Bindings.{new_binding}

@@ -1,10 +1,8 @@
 -- What one declaration of a list gives. No caller needs this.
 -- This project's own; docs/SCRIPTS.md, "Names and scopes".
-use Rattle.std.specs.Prelude.{ℕ, List, Bool, true, false, Result, Ok}
+use Rattle.std.specs.Prelude.{ℕ, List, Bool, true, false, Ok}
 use Rattle.charged_heap.specs.Store.{Store}
-use Rattle.charged_heap.specs.declared.fault.Fail.{Fail}
 use Rattle.charged_heap.specs.declared.values.Binding.{Binding}
-use Rattle.charged_heap.specs.declared.values.Value.{Value}
 use Rattle.charged_heap.specs.declared.values.Value.TheVariants as value
 use Rattle.js_members.specs.Writes.{write_outcome}
 use Rattle.js_scopes.specs.Bindings.{with_new}

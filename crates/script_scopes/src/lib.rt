@@ -16,3 +16,6 @@ mod scripts;
 pub use js_scopes::Fail;
 pub use scopes::{block_scope, call_scope, name_scope};
 pub use scripts::declare_script;
+
+#[cfg(test)]
+mod tests;

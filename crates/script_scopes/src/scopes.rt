@@ -126,12 +126,7 @@ pub fn call_scope(
 /// `Over` comes exactly where the cells of the scope with its one name don't fit; then the heap is as it
 /// was. `NoMemory` may come, and nothing is thrown.
 #[tactic(auto, unfolding(crate::specs::Lists::name_scope))]
-pub fn name_scope(
-    alloc: Global,
-    heap: &mut Heap,
-    parent: u32,
-    name: &Units,
-) -> Result<u32, Fail>
+pub fn name_scope(alloc: Global, heap: &mut Heap, parent: u32, name: &Units) -> Result<u32, Fail>
     requires { IsAt IsScope heap.old parent }
 
     ensures meets { Meets result heap.new (name_scope parent name.now heap.old) }

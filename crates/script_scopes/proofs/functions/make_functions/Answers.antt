@@ -1,4 +1,4 @@
-use Rattle.std.proofs.Common.{◌≡◌, ◌<◌, ◌∙◌, length, get_or, ap, subst, sym}
+use Rattle.std.proofs.Common.{◌<◌, ◌∙◌, length, get_or, ap, subst, sym}
 use Rattle.std.proofs.lemmas.Result.{err_from_is_err_and}
 use Rattle.charged_heap.proofs.GrowthLaws.{grows_then}
 use Rattle.script_scopes.proofs.FunctionLemmas.{functions_go, functions_stop}
