@@ -3,3 +3,4 @@ pub mod Growing
 pub mod ListLemmas
 pub mod PlaceLemmas
 pub mod CallLemmas
+pub mod Passing

@@ -1,5 +1,6 @@
 -- A list of statements, and the names of a declaration, from a place on.
-use Rattle.std.specs.Prelude.{drop, slice_get}
+use Rattle.std.specs.Prelude.{drop, slice_get, slice_index_or}
+use Rattle.std.proofs.lemmas.Option.{slice_get-get_or, get_or_from_slice_get}
 use Rattle.std.proofs.Common.{◌≡◌, ◌∙◌, ℕ, zero, suc, ◌<◌, ◌≤◌, List, [], ◌∷◌, Option, Some, None, length, refl, sym, ap, arith}
 use Rattle.charged_heap.specs.declared.values.Value.{Value}
 use Rattle.js_syntax.specs.Tree.{Head, Trees, nothing, tree}
@@ -28,12 +29,12 @@ list_at at kids t rest site last s e = rw e refl
 pub list_goes_on : (at : Inside) (scripts : ScriptList) (node place : ℕ) (last : Option Value) (site : Site) (statement : ℕ) (s : State)
     → place < kid_count ((form_at scripts site.script node).kids) → form_at scripts site.script statement ≡ kid place ((form_at scripts site.script node).kids)
     → after at scripts (frame.List node place last site) (node_out at scripts role.Statement statement site s)
-      ≡ list_rule at (kids_from place ((form_at scripts site.script node).kids)) site last s
+    ≡ list_rule at (kids_from place ((form_at scripts site.script node).kids)) site last s
 unfolding after
 list_goes_on at scripts node place last site statement s within e =
     rw e (list_at at (kids_from place ((form_at scripts site.script node).kids)) (kid place ((form_at scripts site.script node).kids))
-      (kids_from (suc place) ((form_at scripts site.script node).kids)) site last s
-      (kids_from-at place ((form_at scripts site.script node).kids) within))
+    (kids_from (suc place) ((form_at scripts site.script node).kids)) site last s
+    (kids_from-at place ((form_at scripts site.script node).kids) within))
 
 pub ruleset lists = (list_goes_on)
 
@@ -76,24 +77,24 @@ declare-at at names kids name more t rest site s e f = rw (e, f) refl
 pub declared_without : (at : Inside) (names : List (List ℕ)) (kids : Trees) (place : ℕ) (name : List ℕ) (site : Site) (heap : Store) (left : ℕ)
     → slice_get names place ≡ Some name → place < kid_count kids → ((kid place kids).head).kind ≡ kinds.Absent
     → declare_rule at (drop place names) (kids_from place kids) site (with_left heap left)
-      ≡ declare_rule at (drop (suc place) names) (kids_from (suc place) kids) site (with_left (initialised heap site.scope name value.Undefined) left)
+    ≡ declare_rule at (drop (suc place) names) (kids_from (suc place) kids) site (with_left (initialised heap site.scope name value.Undefined) left)
 declared_without at names kids place name site heap left some within absent =
     declare-at at (drop place names) (kids_from place kids) name (drop (suc place) names) (kid place kids) (kids_from (suc place) kids) site (with_left heap left)
-      (names_at_place names place name some) (kids_from-at place kids within)
+    (names_at_place names place name some) (kids_from-at place kids within)
     ∙ declarator-absent ((kid place kids).head).kind (at role.Value (kid place kids) site (with_left heap left)) name site (with_left heap left)
-      (λ s. declare_rule at (drop (suc place) names) (kids_from (suc place) kids) site s) absent
+    (λ s. declare_rule at (drop (suc place) names) (kids_from (suc place) kids) site s) absent
 
 -- with one the declaration waits for its value
 pub declared_with : (at : Inside) (names : List (List ℕ)) (kids : Trees) (place : ℕ) (name : List ℕ) (site : Site) (s : State)
     → slice_get names place ≡ Some name → place < kid_count kids → (((kid place kids).head).kind ≡ kinds.Absent → ⊥)
     → with_value (at role.Value (kid place kids) site s)
-        (λ v s. declare_rule at (drop (suc place) names) (kids_from (suc place) kids) site (record s { heap = initialised s.heap site.scope name v }))
-      ≡ declare_rule at (drop place names) (kids_from place kids) site s
+    (λ v s. declare_rule at (drop (suc place) names) (kids_from (suc place) kids) site (record s { heap = initialised s.heap site.scope name v }))
+    ≡ declare_rule at (drop place names) (kids_from place kids) site s
 declared_with at names kids place name site s some within there =
     declarator-there ((kid place kids).head).kind (at role.Value (kid place kids) site s) name site s
-      (λ s. declare_rule at (drop (suc place) names) (kids_from (suc place) kids) site s) there
+    (λ s. declare_rule at (drop (suc place) names) (kids_from (suc place) kids) site s) there
     ∙ sym (declare-at at (drop place names) (kids_from place kids) name (drop (suc place) names) (kid place kids) (kids_from (suc place) kids) site s
-      (names_at_place names place name some) (kids_from-at place kids within))
+    (names_at_place names place name some) (kids_from-at place kids within))
 
 -- past the last name, and past the last part, nothing is left
 pub declared_all : (at : Inside) (names : List (List ℕ)) (kids : Trees) (place : ℕ) (site : Site) (s : State) → length names ≤ place
@@ -105,4 +106,33 @@ pub declared_rest : (at : Inside) (names : List (List ℕ)) (kids : Trees) (plac
     → declare_rule at names (kids_from place kids) site s ≡ is_empty s
 declared_rest at names kids place site s past = rw (kids_from-past place kids past) (nothing_declared at names site s)
 
-pub ruleset declared = (names_at_place, declared_without, declared_with, declared_all, declared_rest)
+-- so a declaration waits for the initialiser of the name at the place
+pub declaration_waits : (at : Inside) (scripts : ScriptList) (node place : ℕ) (site : Site) (initialiser : ℕ) (s : State)
+    → place < kid_count ((form_at scripts site.script node).kids) → place < length ((form_at scripts site.script node).head).names
+    → form_at scripts site.script initialiser ≡ kid place ((form_at scripts site.script node).kids)
+    → (((kid place ((form_at scripts site.script node).kids)).head).kind ≡ kinds.Absent → ⊥)
+    → after at scripts (frame.Declarator node place site) (node_out at scripts role.Value initialiser site s)
+    ≡ declare_rule at (drop place ((form_at scripts site.script node).head).names) (kids_from place ((form_at scripts site.script node).kids)) site s
+unfolding after
+declaration_waits at scripts node place site initialiser s within named e there =
+    rw e (declared_with at (((form_at scripts site.script node).head).names) ((form_at scripts site.script node).kids) place
+    (slice_index_or (((form_at scripts site.script node).head).names) place []) site s
+    (slice_get-get_or (((form_at scripts site.script node).head).names) place [] named) within there)
+
+-- a place without a name is read as the empty text
+pub unnamed : (names : List (List ℕ)) (place : ℕ) → length names ≤ place → slice_index_or names place [] ≡ []
+unnamed [] place past = refl
+unnamed (name ∷ names) zero past = absurd (omega arith)
+unnamed (name ∷ names) (suc place) past = unnamed names place (omega arith)
+
+pub declared_behind : (at : Inside) (names : List (List ℕ)) (kids : Trees) (place : ℕ) (site : Site) (s : State) → kid_count kids ≤ place
+    → declare_rule at names (kids_from (suc place) kids) site s ≡ is_empty s
+declared_behind at names kids place site s past = declared_rest at names kids (suc place) site s (omega arith)
+
+pub ruleset declared = (declared_without)
+
+pub ruleset ends = (declared_all, declared_rest)
+
+pub ruleset behind = (declared_behind)
+
+pub ruleset named = (unnamed, get_or_from_slice_get)

@@ -31,7 +31,6 @@ use Rattle.script_steps.specs.declared.frame.Step.TheVariants.{Ended, Into, Buil
 abbrev pub node_out : Inside → ScriptList → Role → ℕ → Site → State → Out
 node_out at scripts for n site s = at for (form_at scripts site.script n) site s
 
-
 -- ---- frames
 
 unfoldable pub after : Inside → ScriptList → Frame → Out → Out
@@ -77,7 +76,7 @@ after at scripts (frame.Callee node site) o =
 after at scripts (frame.Argument node place function receiver values site) o =
     with_value o (λ v s.
     arguments_rule at (kids_from (suc place) (form_at scripts site.script node).kids) site (values ++ v ∷ [])
-      (λ arguments s. call_rule at scripts function receiver arguments s) s)
+    (λ arguments s. call_rule at scripts function receiver arguments s) s)
 after at scripts frame.Body o = returned o
 after at scripts (frame.Element node place array site) o =
     with_value o (λ v s.
@@ -92,10 +91,10 @@ after at scripts (frame.List node place last site) o =
 after at scripts (frame.Declarator node place site) o =
     with_value o (λ v s.
     declare_rule at (drop (suc place) (form_at scripts site.script node).head.names) (kids_from (suc place) (form_at scripts site.script node).kids) site
-      (record s { heap = initialised s.heap site.scope (slice_index_or (form_at scripts site.script node).head.names place []) v }))
+    (record s { heap = initialised s.heap site.scope (slice_index_or (form_at scripts site.script node).head.names place []) v }))
 after at scripts (frame.If good bad site) o =
     with_value o (λ v s. filled (if truthy s.heap v then node_out at scripts role.Statement good site s
-      else else_by (form_at scripts site.script bad).head.kind (node_out at scripts role.Statement bad site s) s))
+    else else_by (form_at scripts site.script bad).head.kind (node_out at scripts role.Statement bad site s) s))
 after at scripts frame.Filled o = filled o
 after at scripts frame.Return o = with_value o (λ v s. (Err (abrupt.Return v), s))
 

@@ -4,3 +4,4 @@ pub mod Sound
 pub mod Callees
 pub mod Leaves
 pub mod Called
+pub mod Groups

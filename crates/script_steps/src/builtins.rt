@@ -28,7 +28,7 @@ pub(crate) fn refuse_call(alloc: Global, heap: &mut Heap) -> Result<Value, Fail>
 /// `Throw` comes with a new error: as `push` and `pop` throw, and TypeError `not a function` for those
 /// that aren't built yet. `Over` comes exactly where the cells of what is made don't fit; what was made
 /// before stays in the heap. `NoMemory` may come.
-pub(crate) fn call_builtin(
+pub fn call_builtin(
     alloc: Global,
     heap: &mut Heap,
     which: Builtin,

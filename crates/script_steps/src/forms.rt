@@ -6,8 +6,8 @@ ghost use Rattle.script_trees.specs.Declarations.{declarations};
 ghost use Rattle.script_meaning.specs.Places.{form_at, script_at};
 ghost use Rattle.script_steps.specs.Sound.{IsThere};
 
-use ivm_text::{NoMemory, Units};
 use item_list::Items;
+use ivm_text::{NoMemory, Units};
 use js_syntax::{Kind, Script, Scripts};
 use script_trees::Declarations;
 use std::alloc::Global;

@@ -13,7 +13,10 @@ pub enum Frame {
     /// What stands inside is all that the form comes to.
     Pass,
     /// A comma that waits for its left operand.
-    Comma { right: u32, site: Site },
+    Comma {
+        right: u32,
+        site: Site,
+    },
     /// An operator that waits for its left operand.
     Left {
         operator: BinaryOperator,
@@ -21,11 +24,18 @@ pub enum Frame {
         site: Site,
     },
     /// An operator that waits for its right operand.
-    Right { operator: BinaryOperator, left: Value },
+    Right {
+        operator: BinaryOperator,
+        left: Value,
+    },
     /// An operator that waits for its one operand.
-    Operand { operator: UnaryOperator },
+    Operand {
+        operator: UnaryOperator,
+    },
     /// `typeof` of a name.
-    TypeOfPlace { site: Site },
+    TypeOfPlace {
+        site: Site,
+    },
     Void,
     /// `?:` that waits for its condition.
     Condition {
@@ -40,9 +50,15 @@ pub enum Frame {
         site: Site,
     },
     /// `=` that waits for its target.
-    AssignTarget { right: u32, site: Site },
+    AssignTarget {
+        right: u32,
+        site: Site,
+    },
     /// `=` that waits for its value.
-    AssignValue { place: Place, site: Site },
+    AssignValue {
+        place: Place,
+        site: Site,
+    },
     /// `+=` and its kin that wait for their target.
     UpdateTarget {
         operator: BinaryOperator,
@@ -63,13 +79,27 @@ pub enum Frame {
         site: Site,
     },
     /// A member that waits for its object.
-    Member { role: Role, node: u32, script: u32 },
+    Member {
+        role: Role,
+        node: u32,
+        script: u32,
+    },
     /// A computed member that waits for its object.
-    IndexObject { role: Role, key: u32, site: Site },
+    IndexObject {
+        role: Role,
+        key: u32,
+        site: Site,
+    },
     /// A computed member that waits for its key.
-    IndexKey { role: Role, object: Value },
+    IndexKey {
+        role: Role,
+        object: Value,
+    },
     /// A call that waits for its callee.
-    Callee { node: u32, site: Site },
+    Callee {
+        node: u32,
+        site: Site,
+    },
     /// A call that waits for the kid with this place, which is an argument.
     Argument {
         node: u32,
@@ -103,7 +133,11 @@ pub enum Frame {
         site: Site,
     },
     /// A `let` or `const` that waits for the initialiser at this place.
-    Declarator { node: u32, place: u32, site: Site },
+    Declarator {
+        node: u32,
+        place: u32,
+        site: Site,
+    },
     /// An `if` that waits for its condition.
     If {
         good: u32,
@@ -130,7 +164,10 @@ pub enum Step {
     /// The form has ended.
     Ended(Result<Ended, Abrupt>),
     /// The form waits for a node inside it.
-    Into { frame: Frame, inner: Inner },
+    Into {
+        frame: Frame,
+        inner: Inner,
+    },
     /// The form's end is that of a call of a built-in function, which takes a tick.
     Builtin {
         which: Builtin,

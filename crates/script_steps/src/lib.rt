@@ -2,9 +2,11 @@
 #![tactic(auto)]
 
 mod assignments;
+mod beginning;
 mod builtins;
 mod called;
 mod calls;
+mod endings;
 mod ends;
 mod forms;
 mod frame;
@@ -14,8 +16,11 @@ mod literals;
 mod members;
 mod operators;
 mod places;
+mod resuming;
 mod statements;
 mod targets;
 
+pub use beginning::begin;
 pub use builtins::call_builtin;
 pub use frame::{Frame, Inner, Step};
+pub use resuming::resume;

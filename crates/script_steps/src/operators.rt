@@ -3,7 +3,7 @@ ghost use Rattle.std.specs.Prelude.{◌≡◌, Ok};
 ghost use Rattle.charged_heap.specs.Closed.{IsClosed, IsSoundValue};
 ghost use Rattle.charged_heap.specs.Growth.{Grows};
 ghost use Rattle.charged_heap.specs.Store.{Store};
-ghost use Rattle.script_meaning.specs.Expressions.{comma_rule, binary_rule, unary_rule, typeof_rule, void_rule, condition_rule, logical_rule};
+ghost use Rattle.script_meaning.specs.Expressions.{goes_right, comma_rule, binary_rule, unary_rule, typeof_rule, void_rule, condition_rule, logical_rule};
 ghost use Rattle.script_meaning.specs.Places.{form_at};
 ghost use Rattle.script_steps.specs.After.{after, Steps, Waits};
 ghost use Rattle.script_steps.specs.Sound.{IsSoundSite, IsSoundStep};
@@ -92,12 +92,7 @@ pub(crate) fn right(
 
 /// Begins an operator of one operand.
 #[tactic(auto, unfolding(crate::specs::After::after, script_meaning::specs::Expressions::unary_rule))]
-pub(crate) fn begin_unary(
-    scripts: &Scripts,
-    operator: UnaryOperator,
-    node: u32,
-    site: Site,
-) -> Step
+pub(crate) fn begin_unary(scripts: &Scripts, operator: UnaryOperator, node: u32, site: Site) -> Step
     ensures step { Waits scripts.now result (λ at s. unary_rule operator at ((form_at scripts.now site.script node).kids) site s) }
     ensures sound { (s : Store) → IsSoundSite s site → IsSoundStep s result }
 {
@@ -175,4 +170,56 @@ pub(crate) fn begin_logical(scripts: &Scripts, operator: Kind, node: u32, site: 
         site,
     };
     Step::value(waiting, left, site)
+}
+
+/// Goes on with the condition of `?:`.
+#[tactic(auto, unfolding(crate::specs::After::after))]
+pub(crate) fn condition(
+    scripts: &Scripts,
+    heap: &Heap,
+    good: u32,
+    bad: u32,
+    site: Site,
+    condition: Value,
+) -> Step
+    requires { IsSoundValue heap.now condition }
+    ensures step { Steps scripts.now result heap.now heap.now (λ at s. after at scripts.now (Frame.Condition good bad site) (Ok (Ended.Value condition), s)) }
+    ensures sound { IsSoundSite heap.now site → IsSoundStep heap.now result }
+{
+    let _ = scripts;
+    let chosen = if truthy(heap, condition) { good } else { bad };
+    Step::value(Frame::Pass, chosen, site)
+}
+
+/// Whether the right operand of `&&`, `||` or `??` is needed.
+fn goes_right(heap: &Heap, operator: Kind, left: Value) -> bool
+    requires { IsSoundValue heap.now left }
+    ensures { result ≡ goes_right operator heap.now left }
+{
+    match operator {
+        Kind::And => truthy(heap, left),
+        Kind::Or => !truthy(heap, left),
+        _ => matches!(left, Value::Undefined | Value::Null),
+    }
+}
+
+/// Goes on with the left operand of `&&`, `||` or `??`, which is what they give where it decides.
+#[tactic(auto, unfolding(crate::specs::After::after))]
+pub(crate) fn logical(
+    scripts: &Scripts,
+    heap: &Heap,
+    operator: Kind,
+    right: u32,
+    site: Site,
+    left: Value,
+) -> Step
+    requires { IsSoundValue heap.now left }
+    ensures step { Steps scripts.now result heap.now heap.now (λ at s. after at scripts.now (Frame.Logical operator right site) (Ok (Ended.Value left), s)) }
+    ensures sound { IsSoundSite heap.now site → IsSoundStep heap.now result }
+{
+    let _ = scripts;
+    if goes_right(heap, operator, left) {
+        return Step::value(Frame::Pass, right, site);
+    }
+    Step::Ended(Ok(Ended::Value(left)))
 }

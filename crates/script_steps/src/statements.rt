@@ -1,18 +1,21 @@
 //! Statements: where they begin and how they go on.
-ghost use Rattle.std.specs.Prelude.{◌≡◌, ◌↔◌, IsTrue, ◌≢◌, ◌≤◌, suc, Option, Ok, Err, None, IfSome, drop, length, slice_index_or, [], if◌then◌else◌};
+ghost use Rattle.std.specs.Prelude.{◌≡◌, ◌<◌, ℕ, MatchOption, Some, slice_get, ◌≢◌, ◌≤◌, suc, Option, Ok, Err, None, IfSome, drop, length, slice_index_or, [], if◌then◌else◌};
 ghost use Rattle.charged_heap.specs.Closed.{IsClosed, IsSoundValue};
 ghost use Rattle.charged_heap.specs.Growth.{Grows};
 ghost use Rattle.charged_heap.specs.Store.{Store};
-ghost use Rattle.script_trees.specs.Tree.{kid, kids_from};
+ghost use Rattle.js_scopes.specs.Scopes.{initialised};
+ghost use Rattle.script_trees.specs.Tree.{kid, kid_count, kids_from};
+ghost use Rattle.script_meaning.specs.Outcome.{Inside};
 ghost use Rattle.script_meaning.specs.Statements.{list_rule, block_rule, declare_rule, if_rule, return_rule, latest, ended_with, or_undefined};
 ghost use Rattle.script_meaning.specs.Places.{form_at};
-ghost use Rattle.script_steps.specs.After.{after, Steps, Waits};
+ghost use Rattle.script_steps.specs.After.{after, with_left, Steps, Waits};
 ghost use Rattle.script_steps.specs.Sound.{IsSoundSite, IsSoundStep};
 
 use crate::ends::abrupt_of;
 use crate::forms::{declarations_at, kid_at, kid_count_at, kind_at, names_at};
 use crate::{Frame, Step};
 use charged_heap::{Heap, Value};
+use ivm_text::Units;
 use js_ops::truthy;
 use js_syntax::{Kind, Scripts};
 use script_meaning::{Abrupt, Ended, Site};
@@ -119,16 +122,54 @@ pub(crate) fn begin_block(
 
 // ---- declarations
 
-/// Whether there is a name at the place, and a part, and the part is left out.
-fn is_left_out(scripts: &Scripts, node: u32, place: u32, site: Site) -> bool
-    ensures { IsTrue result ↔ (((kid place ((form_at scripts.now site.script node).kids)).head).kind ≡ Kind.Absent) }
+/// The name at a place; none from the number of the names on.
+fn name_in<'a>(scripts: &'a Scripts, node: u32, place: u32, site: Site) -> Option<&'a Units>
+    ensures { MatchOption result (length ((form_at scripts.now site.script node).head).names ≤ place) (λ name. slice_get ((form_at scripts.now site.script node).head).names place ≡ Some name.now) }
 {
-    let initialiser = kid_at(scripts, site.script, node, place);
-    kind_at(scripts, site.script, initialiser) == Kind::Absent
+    names_at(scripts, site.script, node).get(place as usize)
+}
+
+/// Gives the name at a place undefined, since its initialiser is left out.
+#[tactic(auto, using(crate::proofs::Growing::growing, crate::proofs::ListLemmas::declared))]
+fn leave_undefined(
+    scripts: &Scripts,
+    heap: &mut Heap,
+    node: u32,
+    place: u32,
+    site: Site,
+    name: &Units,
+)
+    requires site { IsSoundSite heap.old site }
+    requires name { slice_get ((form_at scripts.now site.script node).head).names place ≡ Some name.now }
+    requires part { place < kid_count ((form_at scripts.now site.script node).kids) }
+    requires absent { ((kid place ((form_at scripts.now site.script node).kids)).head).kind ≡ Kind.Absent }
+    ensures passes { (at : Inside) (left : ℕ) → declare_rule at (drop place ((form_at scripts.now site.script node).head).names) (kids_from place ((form_at scripts.now site.script node).kids)) site (with_left heap.old left) ≡ declare_rule at (drop (suc place) ((form_at scripts.now site.script node).head).names) (kids_from (suc place) ((form_at scripts.now site.script node).kids)) site (with_left heap.new left) }
+    ensures grown { Grows heap.old heap.new }
+    ensures closed { IsClosed heap.old → IsClosed heap.new }
+    ensures site { IsSoundSite heap.new site }
+{
+    let _ = scripts;
+    let _ = node;
+    let _ = place;
+    js_scopes::initialise(heap, site.scope, name, Value::Undefined);
+}
+
+/// Waits for the initialiser of the name at a place.
+#[tactic(auto, unfolding(crate::specs::After::after), using(crate::proofs::ListLemmas::declaration_waits))]
+fn await_value(scripts: &Scripts, node: u32, place: u32, site: Site, initialiser: u32) -> Step
+    requires part { place < kid_count ((form_at scripts.now site.script node).kids) }
+    requires named { place < length ((form_at scripts.now site.script node).head).names }
+    requires initialiser { form_at scripts.now site.script initialiser ≡ kid place ((form_at scripts.now site.script node).kids) }
+    requires there { ((kid place ((form_at scripts.now site.script node).kids)).head).kind ≢ Kind.Absent }
+    ensures step { Waits scripts.now result (λ at s. declare_rule at (drop place ((form_at scripts.now site.script node).head).names) (kids_from place ((form_at scripts.now site.script node).kids)) site s) }
+    ensures sound { (s : Store) → IsSoundSite s site → IsSoundStep s result }
+{
+    let _ = scripts;
+    Step::value(Frame::Declarator { node, place, site }, initialiser, site)
 }
 
 /// The names of a `let` or `const` from a place on. A name without an initialiser gets undefined at once.
-#[tactic(auto, unfolding(crate::specs::After::after), using(crate::proofs::Growing::growing, crate::proofs::ListLemmas::declared))]
+#[tactic(auto, using(crate::proofs::Growing::growing, crate::proofs::ListLemmas::ends))]
 pub(crate) fn declare_from(
     scripts: &Scripts,
     heap: &mut Heap,
@@ -145,23 +186,62 @@ pub(crate) fn declare_from(
     if place >= kid_count_at(scripts, site.script, node) {
         return Step::Ended(Ok(Ended::Empty));
     }
-    match names_at(scripts, site.script, node).get(place as usize) {
-        None => Step::Ended(Ok(Ended::Empty)),
-        Some(name) => {
-            if is_left_out(scripts, node, place, site) {
-                js_scopes::initialise(heap, site.scope, name, Value::Undefined);
-                declare_from(scripts, heap, node, place + 1, site)
-            } else {
-                let initialiser = kid_at(scripts, site.script, node, place);
-                Step::value(Frame::Declarator { node, place, site }, initialiser, site)
-            }
+    let Some(name) = name_in(scripts, node, place, site) else {
+        return Step::Ended(Ok(Ended::Empty));
+    };
+    let initialiser = kid_at(scripts, site.script, node, place);
+    match kind_at(scripts, site.script, initialiser) {
+        Kind::Absent => {
+            leave_undefined(scripts, heap, node, place, site, name);
+            declare_from(scripts, heap, node, place + 1, site)
         }
+        _ => await_value(scripts, node, place, site, initialiser),
+    }
+}
+
+/// The names behind a place.
+#[tactic(auto, using(crate::proofs::ListLemmas::behind))]
+fn declare_behind(scripts: &Scripts, heap: &mut Heap, node: u32, place: u32, site: Site) -> Step
+    requires { IsSoundSite heap.old site }
+    ensures step { Steps scripts.now result heap.old heap.new (λ at s. declare_rule at (drop (suc place) ((form_at scripts.now site.script node).head).names) (kids_from (suc place) ((form_at scripts.now site.script node).kids)) site s) }
+    ensures grown { Grows heap.old heap.new }
+    ensures closed { IsClosed heap.old → IsClosed heap.new }
+    ensures sound { IsSoundStep heap.new result }
+{
+    if place >= kid_count_at(scripts, site.script, node) {
+        return Step::Ended(Ok(Ended::Empty));
+    }
+    declare_from(scripts, heap, node, place + 1, site)
+}
+
+/// Gives the name at the place a value.
+#[tactic(auto, using(crate::proofs::Growing::growing, crate::proofs::ListLemmas::named))]
+fn initialise_at(
+    alloc: Global,
+    scripts: &Scripts,
+    heap: &mut Heap,
+    node: u32,
+    place: u32,
+    site: Site,
+    value: Value,
+)
+    requires site { IsSoundSite heap.old site }
+    requires value { IsSoundValue heap.old value }
+    ensures value { heap.new ≡ initialised heap.old site.scope (slice_index_or ((form_at scripts.now site.script node).head).names place []) value }
+    ensures grown { Grows heap.old heap.new }
+    ensures closed { IsClosed heap.old → IsClosed heap.new }
+    ensures site { IsSoundSite heap.new site }
+{
+    match name_in(scripts, node, place, site) {
+        Some(name) => js_scopes::initialise(heap, site.scope, name, value),
+        None => js_scopes::initialise(heap, site.scope, &Units::new(alloc), value),
     }
 }
 
 /// Gives the name at the place its value, and goes on with the names behind it.
-#[tactic(auto, unfolding(crate::specs::After::after), using(crate::proofs::Growing::growing, crate::proofs::ListLemmas::declared))]
+#[tactic(auto, unfolding(crate::specs::After::after))]
 pub(crate) fn declarator(
+    alloc: Global,
     scripts: &Scripts,
     heap: &mut Heap,
     node: u32,
@@ -176,11 +256,8 @@ pub(crate) fn declarator(
     ensures closed { IsClosed heap.old → IsClosed heap.new }
     ensures sound { IsSoundStep heap.new result }
 {
-    match names_at(scripts, site.script, node).get(place as usize) {
-        Some(name) => js_scopes::initialise(heap, site.scope, name, value),
-        None => return Step::Ended(Ok(Ended::Empty)),
-    }
-    declare_from(scripts, heap, node, place + 1, site)
+    initialise_at(alloc, scripts, heap, node, place, site, value);
+    declare_behind(scripts, heap, node, place, site)
 }
 
 // ---- choices and ends

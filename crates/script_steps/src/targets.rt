@@ -4,7 +4,7 @@ ghost use Rattle.charged_heap.specs.Store.{Store};
 ghost use Rattle.script_meaning.specs.Evaluates.{target_by};
 ghost use Rattle.script_meaning.specs.Places.{form_at};
 ghost use Rattle.script_steps.specs.After.{Waits};
-ghost use Rattle.script_steps.specs.Sound.{IsSoundSite, IsSoundStep};
+ghost use Rattle.script_steps.specs.Sound.{IsThere, IsSoundSite, IsSoundStep};
 
 use crate::Step;
 use crate::members::{begin_index, begin_member};
@@ -24,7 +24,7 @@ fn target_name(scripts: &Scripts, node: u32, site: Site) -> Step
 
 /// Begins a target for its place; a form that is none is empty.
 pub(crate) fn begin_target(scripts: &Scripts, kind: Kind, node: u32, site: Site) -> Step
-    requires { ((form_at scripts.now site.script node).head).number_of_node ≡ node }
+    requires { IsThere kind → ((form_at scripts.now site.script node).head).number_of_node ≡ node }
     ensures step { Waits scripts.now result (λ at s. target_by kind at (form_at scripts.now site.script node) site s) }
     ensures sound { (s : Store) → IsSoundSite s site → IsSoundStep s result }
 {

@@ -1,0 +1,230 @@
+//! The first step of each form.
+ghost use Rattle.std.specs.Prelude.{◌≡◌, Some, None, Option};
+ghost use Rattle.charged_heap.specs.Closed.{IsClosed};
+ghost use Rattle.charged_heap.specs.Growth.{Grows};
+ghost use Rattle.charged_heap.specs.Store.{Store};
+ghost use Rattle.script_meaning.specs.Evaluates.{value_by, callee_by, statement_by, node_by};
+ghost use Rattle.script_meaning.specs.Places.{form_at};
+ghost use Rattle.script_steps.specs.After.{Steps, Waits};
+ghost use Rattle.script_steps.specs.Groups.{BeginsInside, IsOneOperand, assignment_of};
+ghost use Rattle.script_steps.specs.Sound.{IsThere, IsSoundSite, IsSoundStep};
+
+use crate::assignments::{begin_assign, begin_step, begin_update};
+use crate::calls::begin_call;
+use crate::forms::{kid_at, kind_at};
+use crate::functions::{arrow, function};
+use crate::leaves::leaf;
+use crate::literals::{begin_array, begin_object};
+use crate::members::{begin_index, begin_member};
+use crate::operators::{
+    begin_binary, begin_comma, begin_condition, begin_logical, begin_typeof, begin_unary,
+    begin_void,
+};
+use crate::statements::{begin_block, begin_if, begin_return, declare_from, list_from};
+use crate::targets::begin_target;
+use crate::{Frame, Inner, Step};
+use charged_heap::Heap;
+use js_ops::{Arithmetic, BinaryOperator, UnaryOperator};
+use js_syntax::{Kind, Scripts};
+use script_meaning::{Ended, Role, Site};
+use std::alloc::Global;
+
+// ---- expressions
+
+/// The operator with which `+=` and its kin calculate; none for all other kinds.
+fn assignment_of(kind: Kind) -> Option<BinaryOperator>
+    ensures { result ≡ assignment_of kind }
+{
+    match kind {
+        Kind::AssignAdd => Some(BinaryOperator::Calculate(Arithmetic::Add)),
+        Kind::AssignSub => Some(BinaryOperator::Calculate(Arithmetic::Sub)),
+        Kind::AssignMul => Some(BinaryOperator::Calculate(Arithmetic::Mul)),
+        Kind::AssignDiv => Some(BinaryOperator::Calculate(Arithmetic::Div)),
+        Kind::AssignRem => Some(BinaryOperator::Calculate(Arithmetic::Rem)),
+        _ => None,
+    }
+}
+
+/// Begins an operator of one operand, `++` and `--` among them.
+fn begin_operand(scripts: &Scripts, kind: Kind, node: u32, site: Site) -> Step
+    requires { IsOneOperand kind }
+    ensures step { Waits scripts.now result (λ at s. value_by kind scripts.now at (form_at scripts.now site.script node) site s) }
+    ensures sound { (s : Store) → IsSoundSite s site → IsSoundStep s result }
+{
+    match kind {
+        Kind::Not => begin_unary(scripts, UnaryOperator::Not, node, site),
+        Kind::Minus => begin_unary(scripts, UnaryOperator::Minus, node, site),
+        Kind::Plus => begin_unary(scripts, UnaryOperator::Plus, node, site),
+        Kind::TypeOf => begin_typeof(scripts, node, site),
+        Kind::Void => begin_void(scripts, node, site),
+        Kind::PreInc => begin_step(scripts, UnaryOperator::Raise, true, node, site),
+        Kind::PreDec => begin_step(scripts, UnaryOperator::Lower, true, node, site),
+        Kind::PostInc => begin_step(scripts, UnaryOperator::Raise, false, node, site),
+        Kind::PostDec => begin_step(scripts, UnaryOperator::Lower, false, node, site),
+        _ => unreachable!(),
+    }
+}
+
+/// Begins an expression by an expression inside it; a form that is none is empty.
+fn begin_inside(scripts: &Scripts, kind: Kind, node: u32, site: Site) -> Step
+    requires kind { BeginsInside kind }
+    requires itself { IsThere kind → ((form_at scripts.now site.script node).head).number_of_node ≡ node }
+    ensures step { Waits scripts.now result (λ at s. value_by kind scripts.now at (form_at scripts.now site.script node) site s) }
+    ensures sound { (s : Store) → IsSoundSite s site → IsSoundStep s result }
+{
+    if let Some(operator) = BinaryOperator::of_kind(kind) {
+        return begin_binary(scripts, operator, node, site);
+    }
+    if let Some(operator) = assignment_of(kind) {
+        return begin_update(scripts, operator, node, site);
+    }
+    match kind {
+        Kind::Comma => begin_comma(scripts, node, site),
+        Kind::Assign => begin_assign(scripts, node, site),
+        Kind::Cond => begin_condition(scripts, node, site),
+        Kind::Coalesce | Kind::Or | Kind::And => begin_logical(scripts, kind, node, site),
+        Kind::Not
+        | Kind::Minus
+        | Kind::Plus
+        | Kind::TypeOf
+        | Kind::Void
+        | Kind::PreInc
+        | Kind::PreDec
+        | Kind::PostInc
+        | Kind::PostDec => begin_operand(scripts, kind, node, site),
+        Kind::Member => begin_member(scripts, Role::Value, node, site),
+        Kind::Index => begin_index(scripts, Role::Value, node, site),
+        Kind::Call => begin_call(scripts, node, site),
+        _ => Step::Ended(Ok(Ended::Empty)),
+    }
+}
+
+/// Begins an expression for its value; a form that is none is empty.
+fn begin_value(
+    alloc: Global,
+    scripts: &Scripts,
+    heap: &mut Heap,
+    kind: Kind,
+    node: u32,
+    site: Site,
+) -> Step
+    requires closed { IsClosed heap.old }
+    requires site { IsSoundSite heap.old site }
+    requires itself { IsThere kind → ((form_at scripts.now site.script node).head).number_of_node ≡ node }
+
+    ensures step { Steps scripts.now result heap.old heap.new (λ at s. value_by kind scripts.now at (form_at scripts.now site.script node) site s) }
+
+    ensures grown { Grows heap.old heap.new }
+    ensures closed { IsClosed heap.new }
+    ensures sound { IsSoundStep heap.new result }
+{
+    match kind {
+        Kind::Num
+        | Kind::Text
+        | Kind::Undefined
+        | Kind::Null
+        | Kind::True
+        | Kind::False
+        | Kind::This
+        | Kind::Name => leaf(alloc, scripts, heap, kind, node, site),
+        Kind::Arrow => arrow(scripts, heap, node, site),
+        Kind::FunctionExpr => function(alloc, scripts, heap, node, site),
+        Kind::Array => begin_array(alloc, scripts, heap, node, site),
+        Kind::Object => begin_object(alloc, scripts, heap, node, site),
+        _ => begin_inside(scripts, kind, node, site),
+    }
+}
+
+/// Begins a callee for its function, and for what it is a member of.
+fn begin_callee(
+    alloc: Global,
+    scripts: &Scripts,
+    heap: &mut Heap,
+    kind: Kind,
+    node: u32,
+    site: Site,
+) -> Step
+    requires closed { IsClosed heap.old }
+    requires site { IsSoundSite heap.old site }
+    requires itself { IsThere kind → ((form_at scripts.now site.script node).head).number_of_node ≡ node }
+
+    ensures step { Steps scripts.now result heap.old heap.new (λ at s. callee_by kind scripts.now at (form_at scripts.now site.script node) site s) }
+
+    ensures grown { Grows heap.old heap.new }
+    ensures closed { IsClosed heap.new }
+    ensures sound { IsSoundStep heap.new result }
+{
+    match kind {
+        Kind::Member => begin_member(scripts, Role::Callee, node, site),
+        Kind::Index => begin_index(scripts, Role::Callee, node, site),
+        _ => begin_value(alloc, scripts, heap, kind, node, site),
+    }
+}
+
+// ---- statements
+
+/// Begins the expression of an expression statement.
+#[tactic(auto, unfolding(crate::specs::After::after))]
+fn begin_expression(scripts: &Scripts, node: u32, site: Site) -> Step
+    ensures step { Waits scripts.now result (λ at s. statement_by Kind.ExprStmt at (form_at scripts.now site.script node) site s) }
+    ensures sound { (s : Store) → IsSoundSite s site → IsSoundStep s result }
+{
+    let expression = kid_at(scripts, site.script, node, 0);
+    Step::value(Frame::Pass, expression, site)
+}
+
+/// Begins a statement; a form that is none is empty.
+fn begin_statement(
+    alloc: Global,
+    scripts: &Scripts,
+    heap: &mut Heap,
+    kind: Kind,
+    node: u32,
+    site: Site,
+) -> Step
+    requires closed { IsClosed heap.old }
+    requires site { IsSoundSite heap.old site }
+
+    ensures step { Steps scripts.now result heap.old heap.new (λ at s. statement_by kind at (form_at scripts.now site.script node) site s) }
+
+    ensures grown { Grows heap.old heap.new }
+    ensures closed { IsClosed heap.new }
+    ensures sound { IsSoundStep heap.new result }
+{
+    match kind {
+        Kind::Script | Kind::Body => list_from(scripts, node, 0, None, site),
+        Kind::Block => begin_block(alloc, scripts, heap, node, site),
+        Kind::Let | Kind::Const => declare_from(scripts, heap, node, 0, site),
+        Kind::ExprStmt => begin_expression(scripts, node, site),
+        Kind::If => begin_if(scripts, node, site),
+        Kind::Return => begin_return(scripts, node, site),
+        _ => Step::Ended(Ok(Ended::Empty)),
+    }
+}
+
+// ---- nodes
+
+/// The first step of a node whose tick was taken, for what it is evaluated and where
+/// (ECMA-262, Runtime Semantics: Evaluation).
+///
+/// The step ends the form, waits for a node inside it, or calls a built-in function. Want of memory ends the form
+/// with `Abrupt::NoMemory`; the heap keeps what was made until then.
+pub fn begin(alloc: Global, scripts: &Scripts, heap: &mut Heap, inner: Inner) -> Step
+    requires closed { IsClosed heap.old }
+    requires site { IsSoundSite heap.old inner.site }
+
+    ensures step { Steps scripts.now result heap.old heap.new (λ at s. node_by inner.role scripts.now at (form_at scripts.now inner.site.script inner.node) inner.site s) }
+
+    ensures grown { Grows heap.old heap.new }
+    ensures closed { IsClosed heap.new }
+    ensures sound { IsSoundStep heap.new result }
+{
+    let Inner { role, node, site } = inner;
+    let kind = kind_at(scripts, site.script, node);
+    match role {
+        Role::Value => begin_value(alloc, scripts, heap, kind, node, site),
+        Role::Target => begin_target(scripts, kind, node, site),
+        Role::Callee => begin_callee(alloc, scripts, heap, kind, node, site),
+        Role::Statement => begin_statement(alloc, scripts, heap, kind, node, site),
+    }
+}
