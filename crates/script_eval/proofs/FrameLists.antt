@@ -1,5 +1,5 @@
 -- Waiting forms stay sound: as the store grows, and as one of them is put on the others or taken off.
-use Rattle.std.proofs.Common.{◌≡◌, ◌<◌, ◌+◌, ◌-◌, ◌⊎◌, inl, inr, ℕ, List, [], ◌∷◌, ◌++◌, length, arith, length-append, subst}
+use Rattle.std.proofs.Common.{◌≡◌, ◌<◌, ◌+◌, ◌-◌, ◌⊎◌, inl, inr, ℕ, List, [], ◌∷◌, ◌++◌, length, arith, length-append, subst, sym}
 use Rattle.std.specs.Prelude.{slice_index_or}
 use Rattle.std.specs.List.{All}
 use Rattle.std.proofs.lemmas.List.{get_or_append_left, get_or-append-add}
@@ -13,8 +13,11 @@ use Rattle.script_steps.specs.declared.frame.Step.{Step}
 use Rattle.script_eval.specs.Machines.{AreSoundFrames}
 use Rattle.script_eval.specs.Weight.{IsEnded}
 
-pub frames_none : (s : Store) → AreSoundFrames s []
+frames_none : (s : Store) → AreSoundFrames s []
 frames_none s = record { each = All-nil (IsSoundFrame s); most = omega arith }
+
+pub frames_begin : (s : Store) (fs : List Frame) → fs ≡ [] → AreSoundFrames s fs
+frames_begin s fs none = subst (AreSoundFrames s) (sym none) (frames_none s)
 
 pub frames_grow : (s t : Store) (fs : List Frame) → Grows s t → AreSoundFrames s fs → AreSoundFrames t fs
 frames_grow s t fs grows sound = record {
@@ -46,9 +49,13 @@ frame_last s fs f sound =
 pub fewer_than : (s : Store) (fs : List Frame) (f : Frame) → AreSoundFrames s (fs ++ f ∷ []) → length fs < 256
 fewer_than s fs f sound = omega (arith, sound.most, length-append fs (f ∷ []))
 
+-- the others, once the last was taken off and the store has grown
+pub frames_after : (s t : Store) (all fs : List Frame) (f : Frame) → all ≡ fs ++ f ∷ [] → Grows s t → AreSoundFrames s all → AreSoundFrames t fs
+frames_after s t all fs f is grows sound = frames_grow s t fs grows (frames_fewer s fs f (subst (AreSoundFrames s) is sound))
+
 -- a step that lets a form wait finds room for it
 pub room_found : (step : Step) (fs : List Frame) (room : ℕ) → room ≡ 256 - length fs → IsEnded step ⊎ (0 < room) → IsEnded step ⊎ (length fs < 256)
 room_found step fs room is (inl ended) = inl ended
 room_found step fs room is (inr there) = inr (omega arith)
 
-pub ruleset frame_lists = (frames_none, frames_grow, frames_push, frames_fewer, frame_last, fewer_than, room_found)
+pub ruleset frame_lists = (frames_begin, frames_grow, frames_push, frames_fewer, frame_last, fewer_than, room_found)

@@ -4,3 +4,4 @@ pub mod Ends
 pub mod Entering
 pub mod FrameLists
 pub mod Roots
+pub mod HeapEnds

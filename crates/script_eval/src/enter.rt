@@ -1,5 +1,5 @@
 //! Nodes and built-in functions whose tick is due.
-ghost use Rattle.std.specs.Prelude.{◌≡◌, ◌≢◌, ◌⊎◌, ◌<◌, ◌≤◌, ◌-◌, Err, IsErr, codes};
+ghost use Rattle.std.specs.Prelude.{◌≡◌, ◌≢◌, ◌⊎◌, ◌↔◌, ◌<◌, ◌≤◌, ◌-◌, Err, IsTrue, codes};
 ghost use Rattle.std.specs.List.{All};
 ghost use Rattle.charged_heap.specs.Closed.{IsClosed, IsSoundValue};
 ghost use Rattle.charged_heap.specs.Growth.{Grows};
@@ -47,6 +47,18 @@ fn too_deep(alloc: Global, scripts: &Scripts, heap: &mut Heap) -> Step
 
 // ---- ticks
 
+/// Takes a tick, where one is left.
+fn take_tick(left: &mut u32) -> bool
+    ensures taken { IsTrue result ↔ (0 < left.old) }
+    ensures left { left.new ≡ left.old - 1 }
+{
+    if *left == 0 {
+        return false;
+    }
+    *left -= 1;
+    true
+}
+
 /// Takes a node's tick and begins its form, where at most so many nodes may be in evaluation, itself
 /// included. Where no tick is left the run stops.
 #[tactic(auto, using(crate::proofs::Entering::entering, script_steps::proofs::Growing::growing))]
@@ -70,10 +82,9 @@ pub(crate) fn enter(
     ensures closed { IsClosed heap.new }
     ensures sound { IsSoundStep heap.new result }
 {
-    if *left == 0 {
+    if !take_tick(left) {
         return Step::Ended(Err(Abrupt::Stop(StopCause::Timeout)));
     }
-    *left -= 1;
     if room == 0 {
         too_deep(alloc, scripts, heap)
     } else {
@@ -102,10 +113,9 @@ pub(crate) fn call(
     ensures closed { IsClosed heap.new }
     ensures sound { IsSoundEnd heap.new result }
 {
-    if *left == 0 {
+    if !take_tick(left) {
         return Err(Abrupt::Stop(StopCause::Timeout));
     }
-    *left -= 1;
     match call_builtin(alloc, heap, which, receiver, arguments) {
         Ok(value) => Ok(Ended::Value(value)),
         Err(fail) => Err(abrupt_of(fail)),
