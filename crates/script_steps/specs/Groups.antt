@@ -1,5 +1,5 @@
--- Groups of forms by what comes first in them, and groups of frames by the end that they wait for.
--- This project's own; docs/SCRIPTS.md, "Evaluation".
+-- Groups of forms by what comes first in them, and groups of frames by the end that they wait for. No caller needs this.
+-- This project's own: the ways by which the steps choose; docs/SCRIPTS.md, "Evaluation".
 use Rattle.std.specs.Prelude.{Option, Some, None}
 use Rattle.js_syntax.specs.declared.kind.Kind.{Kind}
 use Rattle.js_syntax.specs.declared.kind.Kind.TheVariants as kinds
@@ -51,7 +51,7 @@ BeginsInside _ = Unit {0}
 
 -- ---- frames
 
--- the end of what stands inside may be abrupt and still not pass
+-- the form makes an end of its own of every end inside it, of abrupt ones too
 abbrev pub TakesAnyEnd : Frame → Type 0
 TakesAnyEnd frame.Body = Unit {0}
 TakesAnyEnd (frame.List _ _ _ _) = Unit {0}
@@ -66,7 +66,7 @@ TakesPlace (frame.UpdateTarget _ _ _) = Unit {0}
 TakesPlace (frame.StepTarget _ _ _) = Unit {0}
 TakesPlace _ = ⊥
 
--- the form waits for the operand of an operator, or for an operand that is all that it comes to
+-- the form waits for the operand of an operator, or for all that it comes to
 abbrev pub TakesOperand : Frame → Type 0
 TakesOperand frame.Pass = Unit {0}
 TakesOperand (frame.Comma _ _) = Unit {0}
