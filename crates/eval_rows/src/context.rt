@@ -117,11 +117,13 @@ fn end_text(alloc: Global, heap: &Heap, end: Completion) -> Result<String, Fail>
             Ok(format!(in alloc; "throw {}", value_text(alloc, heap, value)?)?)
         }
         Completion::Stop(StopCause::Timeout) => Ok(String::from_str(alloc, "timeout")?),
-        Completion::Stop(StopCause::Memory {
-            charged,
-            asked,
-            limit,
-        }) => Ok(format!(in alloc; "memory {charged} {asked} {limit}")?),
+        Completion::Stop(
+            StopCause::Memory {
+                charged,
+                asked,
+                limit,
+            },
+        ) => Ok(format!(in alloc; "memory {charged} {asked} {limit}")?),
     }
 }
 

@@ -104,10 +104,7 @@ static EXPRESSIONS: [(&str, &str); 40] = [
         "let a = []; a.push(7); a.push(8); a.pop()",
         "8; 20 ticks, 6 cells",
     ),
-    (
-        "let o = { k: 1 }; o.k = 5; o.k",
-        "5; 12 ticks, 8 cells",
-    ),
+    ("let o = { k: 1 }; o.k = 5; o.k", "5; 12 ticks, 8 cells"),
     (
         "let o = { }; o[\"key\" + 1] = 2; o.key1",
         "2; 14 ticks, 12 cells",
@@ -178,18 +175,12 @@ static FUNCTIONS: [(&str, &str); 25] = [
         "let n = 0; function f() { } f(n = 4); n",
         "4; 13 ticks, 10 cells",
     ),
-    (
-        "f(); function f() { return 7; }",
-        "7; 8 ticks, 9 cells",
-    ),
+    ("f(); function f() { return 7; }", "7; 8 ticks, 9 cells"),
     (
         "f(); function f() { return 1; } function f() { return 2; }",
         "2; 9 ticks, 13 cells",
     ),
-    (
-        "{ function g() { return 1; } g(); }",
-        "1; 9 ticks, 9 cells",
-    ),
+    ("{ function g() { return 1; } g(); }", "1; 9 ticks, 9 cells"),
     (
         "let f = function g(n) { return n < 1 ? 0 : n + g(n - 1); }; f(3)",
         "6; 53 ticks, 20 cells",

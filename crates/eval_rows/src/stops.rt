@@ -9,9 +9,24 @@ static STOPS: [(&str, u32, u32, &str); 20] = [
     ("let a = 2; a * 21", 7, 1, "42; 7 ticks, 1 cells"),
     ("let a = 2; a * 21", 6, 1, "timeout; 6 ticks, 1 cells"),
     ("let a = 2; a * 21", 0, 1, "timeout; 0 ticks, 1 cells"),
-    ("let a = 2; a * 21", 7, 0, "memory 12 1 12; 0 ticks, 0 cells"),
-    ("let a = \"abcd\";", 9, 1, "memory 13 2 13; 3 ticks, 1 cells"),
-    ("let a = \"abcd\";", 9, 2, "memory 13 2 14; 3 ticks, 1 cells"),
+    (
+        "let a = 2; a * 21",
+        7,
+        0,
+        "memory 12 1 12; 0 ticks, 0 cells",
+    ),
+    (
+        "let a = \"abcd\";",
+        9,
+        1,
+        "memory 13 2 13; 3 ticks, 1 cells",
+    ),
+    (
+        "let a = \"abcd\";",
+        9,
+        2,
+        "memory 13 2 14; 3 ticks, 1 cells",
+    ),
     ("let a = \"abcd\";", 9, 3, "undefined; 3 ticks, 3 cells"),
     ("7 / 2", 9, 5, "memory 12 6 17; 5 ticks, 0 cells"),
     ("7 / 2", 9, 6, "memory 18 4 18; 5 ticks, 6 cells"),
@@ -26,7 +41,12 @@ static STOPS: [(&str, u32, u32, &str); 20] = [
     ("[].push(1)", 7, 4, "memory 16 1 16; 7 ticks, 4 cells"),
     ("function f() { } f()", 5, 99, "timeout; 5 ticks, 9 cells"),
     ("function f() { } f()", 6, 99, "undefined; 6 ticks, 9 cells"),
-    ("function f() { } f()", 9, 8, "memory 19 2 20; 5 ticks, 7 cells"),
+    (
+        "function f() { } f()",
+        9,
+        8,
+        "memory 19 2 20; 5 ticks, 7 cells",
+    ),
     ("{ let a; }", 1, 99, "timeout; 1 ticks, 0 cells"),
     ("{ let a; }", 2, 99, "timeout; 2 ticks, 3 cells"),
     ("{ let a; }", 3, 2, "memory 12 3 14; 2 ticks, 0 cells"),
@@ -78,7 +98,10 @@ fn at_most_256_nodes_are_in_evaluation(rt: HostRuntime) -> Result<(), Fail> {
     let found = outcome(alloc, &mut heap, &scripts, 0, 1_000)?;
     assert_eq!(rt; found.as_str(), "254; 509 ticks, 0 cells");
     let found = outcome(alloc, &mut heap, &scripts, 1, 1_000)?;
-    assert_eq!(rt; found.as_str(), "throw RangeError nesting too deep; 257 ticks, 9 cells");
+    assert_eq!(rt;
+        found.as_str(),
+        "throw RangeError nesting too deep; 257 ticks, 9 cells"
+    );
     Ok(())
 }
 

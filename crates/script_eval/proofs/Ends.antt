@@ -1,7 +1,7 @@
 -- How a run ends: nothing waits any more, or it is stopped, which passes every form that waits.
 use Rattle.std.proofs.Common.{◌≡◌, ℕ, suc, ◌-◌, List, [], ◌∷◌, length, Result, Err, refl, arith}
 use Rattle.script_meaning.specs.Evaluates.{evaluated}
-use Rattle.script_meaning.specs.Outcome.{State, Out, Inside}
+use Rattle.script_meaning.specs.Outcome.{State, Inside}
 use Rattle.script_meaning.specs.Places.{ScriptList}
 use Rattle.script_meaning.specs.declared.completion.Abrupt.{Abrupt}
 use Rattle.script_meaning.specs.declared.completion.Abrupt.TheVariants as abrupt
@@ -10,7 +10,6 @@ use Rattle.script_meaning.specs.declared.completion.StopCause.{StopCause}
 use Rattle.script_steps.specs.After.{after}
 use Rattle.script_steps.specs.declared.frame.Frame.{Frame}
 use Rattle.script_steps.specs.declared.frame.Frame.TheVariants as frame
-use Rattle.script_eval.specs.declared.machine.Control.{Control}
 use Rattle.script_eval.specs.declared.machine.Control.TheVariants as control
 use Rattle.script_eval.specs.Rest.{rest, left_over}
 

@@ -1,12 +1,12 @@
 -- What a node comes to whose tick is due.
-use Rattle.std.proofs.Common.{◌≡◌, ◌≢◌, ℕ, zero, suc, ◌-◌, List, Result, Err, refl, arith}
+use Rattle.std.proofs.Common.{◌≡◌, ◌≢◌, ℕ, zero, suc, ◌-◌, List, Err, refl, arith}
 use Rattle.std.proofs.Math.Numerals.{sub-one}
 use Rattle.charged_heap.specs.Store.{Store}
 use Rattle.charged_heap.specs.declared.builtin.Builtin.{Builtin}
 use Rattle.charged_heap.specs.declared.values.Value.{Value}
 use Rattle.script_meaning.specs.Evaluates.{evaluated, node_by, too_deep}
 use Rattle.script_meaning.specs.Functions.{builtin_rule, builtin_outcome}
-use Rattle.script_meaning.specs.Outcome.{State, Out, of_heap}
+use Rattle.script_meaning.specs.Outcome.{of_heap}
 use Rattle.script_meaning.specs.Places.{ScriptList, form_at}
 use Rattle.script_meaning.specs.declared.completion.Abrupt.TheVariants as abrupt
 use Rattle.script_meaning.specs.declared.completion.StopCause.TheVariants.{Timeout}
@@ -48,4 +48,5 @@ call-there which receiver arguments heap zero some = absurd (some refl)
 call-there which receiver arguments heap (suc left) some = rw sub-one refl
 
 pub ruleset entering = (tick-missing, room-missing, room-there)
+
 pub ruleset calling = (call-missing, call-there)

@@ -1,7 +1,6 @@
 -- Waiting forms stay sound: as the store grows, and as one of them is put on the others or taken off.
 use Rattle.std.proofs.Common.{◌≡◌, ◌<◌, ◌+◌, ◌-◌, ◌⊎◌, inl, inr, ℕ, List, [], ◌∷◌, ◌++◌, length, arith, length-append, subst, sym}
 use Rattle.std.specs.Prelude.{slice_index_or}
-use Rattle.std.specs.List.{All}
 use Rattle.std.proofs.lemmas.List.{get_or_append_left, get_or-append-add}
 use Rattle.std.proofs.lemmas.List.Elements.{All-nil, All-cons, All-append}
 use Rattle.charged_heap.specs.Growth.{Grows}
@@ -34,9 +33,9 @@ frames_push s fs f sound one few = record {
 pub frames_fewer : (s : Store) (fs : List Frame) (f : Frame) → AreSoundFrames s (fs ++ f ∷ []) → AreSoundFrames s fs
 frames_fewer s fs f sound = record {
   each = λ k d within.
-    let within' : k < length (fs ++ f ∷ []) = omega (arith, length-append fs (f ∷ [])) in
-    let here : IsSoundFrame s (slice_index_or (fs ++ f ∷ []) k d) = sound.each k d within' in
-    subst (IsSoundFrame s) (get_or_append_left fs (f ∷ []) d k within) here;
+      let within' : k < length (fs ++ f ∷ []) = omega (arith, length-append fs (f ∷ [])) in
+      let here : IsSoundFrame s (slice_index_or (fs ++ f ∷ []) k d) = sound.each k d within' in
+      subst (IsSoundFrame s) (get_or_append_left fs (f ∷ []) d k within) here;
   most = omega (arith, sound.most, length-append fs (f ∷ []));
 }
 

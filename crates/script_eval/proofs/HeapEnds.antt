@@ -1,5 +1,5 @@
 -- A step that ends as a call over the heap did.
-use Rattle.std.proofs.Common.{◌≡◌, ◌≢◌, ℕ, Result, Ok, Err, refl, ap}
+use Rattle.std.proofs.Common.{◌≡◌, Result, Ok, Err, refl}
 use Rattle.charged_heap.specs.Store.{Store}
 use Rattle.charged_heap.specs.declared.fault.Fail.{Fail}
 use Rattle.charged_heap.specs.declared.fault.Fail.TheVariants as fail

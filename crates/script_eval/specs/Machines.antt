@@ -1,8 +1,7 @@
 -- Which machines may run over a store.
 -- This project's own; docs/PRICES.md, "Cells".
-use Rattle.std.specs.Prelude.{ℕ, ◌≤◌, List, length}
+use Rattle.std.specs.Prelude.{◌≤◌, List, length}
 use Rattle.std.specs.List.{All}
-use Rattle.charged_heap.specs.Closed.{IsClosed}
 use Rattle.charged_heap.specs.Store.{Store}
 use Rattle.script_meaning.specs.Evaluates.{NESTING}
 use Rattle.script_steps.specs.Sound.{IsSoundEnd, IsSoundFrame, IsSoundSite}

@@ -1,11 +1,9 @@
 -- What is left of a run whose waiting forms a machine holds in a list.
 -- This project's own; docs/SCRIPTS.md, "Evaluation".
-use Rattle.std.specs.Prelude.{ℕ, suc, ◌-◌, List, [], ◌∷◌, length, Result}
+use Rattle.std.specs.Prelude.{ℕ, suc, ◌-◌, List, [], ◌∷◌, length}
 use Rattle.script_meaning.specs.Evaluates.{evaluated}
 use Rattle.script_meaning.specs.Outcome.{State, Out}
 use Rattle.script_meaning.specs.Places.{ScriptList}
-use Rattle.script_meaning.specs.declared.completion.Abrupt.{Abrupt}
-use Rattle.script_meaning.specs.declared.completion.Ended.{Ended}
 use Rattle.script_steps.specs.After.{after, node_out}
 use Rattle.script_steps.specs.declared.frame.Frame.{Frame}
 use Rattle.script_steps.specs.declared.frame.Inner.{Inner}
