@@ -110,7 +110,7 @@ pub(crate) fn number_at(scripts: &Scripts, script: u32, node: u32) -> i64
 }
 
 /// What the statements among the form's parts declare.
-pub(crate) fn declarations_at(
+pub fn declarations_at(
     alloc: Global,
     scripts: &Scripts,
     script: u32,

@@ -27,5 +27,7 @@ mod targets;
 
 pub use beginning::begin;
 pub use builtins::call_builtin;
+pub use ends::{abrupt_of, of_heap};
+pub use forms::declarations_at;
 pub use frame::{Frame, Inner, Step};
 pub use resuming::resume;

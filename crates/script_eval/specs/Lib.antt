@@ -1,0 +1,4 @@
+pub mod Rest
+pub mod Machines
+pub mod Weight
+pub mod Runs

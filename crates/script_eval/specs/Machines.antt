@@ -1,0 +1,20 @@
+-- Which machines may run over a store.
+-- This project's own; docs/PRICES.md, "Cells".
+use Rattle.std.specs.Prelude.{◌≤◌, List, length}
+use Rattle.std.specs.List.{All}
+use Rattle.charged_heap.specs.Store.{Store}
+use Rattle.script_meaning.specs.Evaluates.{NESTING}
+use Rattle.script_steps.specs.Sound.{IsSoundEnd, IsSoundFrame, IsSoundSite}
+use Rattle.script_steps.specs.declared.frame.Frame.{Frame}
+use Rattle.script_eval.specs.declared.machine.Control.{Control}
+use Rattle.script_eval.specs.declared.machine.Control.TheVariants as control
+
+-- the next node stands in a scope of the store, or the end names what is there
+abbrev pub IsSoundControl : Store → Control → Type 0
+IsSoundControl s (control.Node inner) = IsSoundSite s inner.site
+IsSoundControl s (control.Ended end) = IsSoundEnd s end
+
+-- each waiting form names what is there, and no more wait than nodes may be in evaluation
+pub record AreSoundFrames (s : Store) (frames : List Frame) : Type 0 where
+  pub each : All (IsSoundFrame s) frames
+  pub most : length frames ≤ NESTING
