@@ -145,8 +145,8 @@ completion_of (Err _) = completion.Normal value.Undefined
 unfoldable pub script_run : ScriptList → ℕ → ℕ → ℕ → ℕ → State → Out
 script_run scripts script root names global s =
     on_heap s (script_declared script names global (declarations (form_at scripts script root).kids) s.heap)
-      (λ _ s. evaluated scripts NESTING role.Statement (form_at scripts script root)
-        (record { script = script; scope = names; global = global; receiver = value.Item global }) s)
+    (λ _ s. evaluated scripts NESTING role.Statement (form_at scripts script root)
+    (record { script = script; scope = names; global = global; receiver = value.Item global }) s)
 
 -- a function is called with these arguments
 unfoldable pub call_run : ScriptList → Value → Value → List Value → State → Out

@@ -64,7 +64,7 @@ void_rule at kids site s = with_value (at role.Value (kid 0 kids) site s) (λ _ 
 unfoldable pub condition_rule : Inside → Trees → Site → State → Out
 condition_rule at kids site s =
     with_value (at role.Value (kid 0 kids) site s)
-      (λ v s. if truthy s.heap v then at role.Value (kid 1 kids) site s else at role.Value (kid 2 kids) site s)
+    (λ v s. if truthy s.heap v then at role.Value (kid 1 kids) site s else at role.Value (kid 2 kids) site s)
 
 abbrev pub is_nullish : Value → Bool
 is_nullish value.Undefined = true
@@ -80,7 +80,7 @@ goes_right _ s v = is_nullish v
 unfoldable pub logical_rule : Kind → Inside → Trees → Site → State → Out
 logical_rule op at kids site s =
     with_value (at role.Value (kid 0 kids) site s)
-      (λ v s. if goes_right op s.heap v then at role.Value (kid 1 kids) site s else gives v s)
+    (λ v s. if goes_right op s.heap v then at role.Value (kid 1 kids) site s else gives v s)
 
 -- ---- assignments
 
@@ -124,7 +124,7 @@ member_for role.Statement base k s read = of_heap s read
 unfoldable pub member_rule : Role → Inside → Tree → Site → State → Out
 member_rule for at t site s =
     with_value (at role.Value (kid 0 t.kids) site s)
-      (λ base s. member_for for base (key.Name t.head.number_of_node) s (read_outcome base (name_of t) s.heap))
+    (λ base s. member_for for base (key.Name t.head.number_of_node) s (read_outcome base (name_of t) s.heap))
 
 -- a key that is neither a string nor a number throws, whatever the base is
 abbrev pub computed_for : Role → Value → Value → State → Option (List ℕ) → Out
@@ -144,7 +144,7 @@ unfoldable pub arguments_rule : Inside → Trees → Site → List Value → (Li
 arguments_rule at nothing site values go s = go values s
 arguments_rule at (tree head kids rest) site values go s =
     with_value (at role.Value (record { head = head; kids = kids }) site s)
-      (λ v s. arguments_rule at rest site (values ++ v ∷ []) go s)
+    (λ v s. arguments_rule at rest site (values ++ v ∷ []) go s)
 
 -- the arguments are evaluated before it is asked whether the callee can be called
 unfoldable pub called_rule : ScriptList → Inside → Trees → Site → State → Out
@@ -169,7 +169,7 @@ item_number _ = 0
 unfoldable pub array_rule : Inside → Trees → Site → State → Out
 array_rule at kids site s =
     with_value (of_heap s (made (item.Array []) s.heap (λ n heap. (Ok (value.Item n), heap))))
-      (λ array s. elements_rule at (item_number array) kids site s)
+    (λ array s. elements_rule at (item_number array) kids site s)
 
 -- a new object, and each property as it is evaluated
 unfoldable pub properties_rule : Inside → ℕ → List (List ℕ) → Trees → Site → State → Out
@@ -183,7 +183,7 @@ properties_rule at object (name ∷ names) (tree head kids rest) site s =
 unfoldable pub object_rule : Inside → Tree → Site → State → Out
 object_rule at t site s =
     with_value (of_heap s (made (item.Plain []) s.heap (λ n heap. (Ok (value.Item n), heap))))
-      (λ object s. properties_rule at (item_number object) t.head.names t.kids site s)
+    (λ object s. properties_rule at (item_number object) t.head.names t.kids site s)
 
 -- a function of this form, made here; an arrow function keeps `this`
 abbrev pub closure_made : ℕ → Site → Value → Store → Outcome

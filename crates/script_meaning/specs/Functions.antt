@@ -81,14 +81,14 @@ body_rule false at body site s = at role.Value body site s
 unfoldable pub enter_rule : Inside → Tree → Site → List Value → State → Out
 enter_rule at f site arguments s =
     on_heap s (call_scope site.script site.global site.scope f.head.names (body_declares (kid 0 f.kids)) arguments s.heap)
-      (λ scope s. body_rule (is_body (kid 0 f.kids).head.kind) at (kid 0 f.kids) (record site { scope = scope }) s)
+    (λ scope s. body_rule (is_body (kid 0 f.kids).head.kind) at (kid 0 f.kids) (record site { scope = scope }) s)
 
 -- an item that is a function of one of the scripts is entered; no other can be called
 abbrev pub item_call : Inside → ScriptList → Item → Value → List Value → State → Out
 item_call at scripts (item.Closure script node scope global kept) receiver arguments s =
     if is_function (form_at scripts script node).head.kind
     then enter_rule at (form_at scripts script node)
-      (record { script = script; scope = scope; global = global; receiver = this_of (form_at scripts script node).head.kind kept receiver }) arguments s
+    (record { script = script; scope = scope; global = global; receiver = this_of (form_at scripts script node).head.kind kept receiver }) arguments s
     else of_heap s (no_function s.heap)
 item_call at scripts _ receiver arguments s = of_heap s (no_function s.heap)
 

@@ -63,7 +63,7 @@ abbrev pub block_by : List Declaration → Inside → Trees → Site → State �
 block_by [] at kids site s = list_rule at kids site None s
 block_by (first ∷ more) at kids site s =
     on_heap s (block_scope site.script site.global site.scope (first ∷ more) s.heap)
-      (λ scope s. list_rule at kids (record site { scope = scope }) None s)
+    (λ scope s. list_rule at kids (record site { scope = scope }) None s)
 
 unfoldable pub block_rule : Inside → Trees → Site → State → Out
 block_rule at kids site s = block_by (declarations kids) at kids site s
@@ -82,7 +82,7 @@ declare_rule at [] kids site s = is_empty s
 declare_rule at (name ∷ names) nothing site s = is_empty s
 declare_rule at (name ∷ names) (tree head kids rest) site s =
     declarator head.kind (at role.Value (record { head = head; kids = kids }) site s) name site s
-      (λ s. declare_rule at names rest site s)
+    (λ s. declare_rule at names rest site s)
 
 -- ---- choices and ends
 
@@ -104,8 +104,8 @@ else_by _ otherwise s = otherwise
 unfoldable pub if_rule : Inside → Trees → Site → State → Out
 if_rule at kids site s =
     with_value (at role.Value (kid 0 kids) site s)
-      (λ v s. filled (if truthy s.heap v then at role.Statement (kid 1 kids) site s
-        else else_by (kid 2 kids).head.kind (at role.Statement (kid 2 kids) site s) s))
+    (λ v s. filled (if truthy s.heap v then at role.Statement (kid 1 kids) site s
+    else else_by (kid 2 kids).head.kind (at role.Statement (kid 2 kids) site s) s))
 
 -- what is returned: a value, and undefined where it is left out
 abbrev pub return_by : Kind → Out → State → Out
