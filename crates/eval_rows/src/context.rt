@@ -73,27 +73,31 @@ fn text_of(alloc: Global, units: &Units) -> Result<String, Fail> {
     Ok(String::from_utf8_lossy(alloc, &units.to_utf8(alloc)?)?)
 }
 
+/// The text of an error's message.
+fn message_text(alloc: Global, heap: &Heap, n: u32) -> Result<String, Fail> {
+    if n >= heap.len() {
+        return Ok(String::from_str(alloc, "no item")?);
+    }
+    match heap.get(n) {
+        Item::Text(units) => text_of(alloc, units),
+        _ => Ok(String::from_str(alloc, "no text")?),
+    }
+}
+
 fn item_text(alloc: Global, heap: &Heap, n: u32) -> Result<String, Fail> {
     if n >= heap.len() {
         return Ok(String::from_str(alloc, "no item")?);
     }
-    Ok(match heap.get(n) {
-        Item::Text(units) => format!(in alloc; "\"{}\"", text_of(alloc, units)?)?,
-        Item::Error(kind, message) => {
-            format!(in alloc; "{kind:?} {}", item_text_below(alloc, heap, *message)?)?
-        }
-        Item::Plain(_) => String::from_str(alloc, "object")?,
-        Item::Array(_) => String::from_str(alloc, "array")?,
-        Item::Closure { .. } => String::from_str(alloc, "function")?,
-        _ => String::from_str(alloc, "another item")?,
-    })
-}
-
-/// The text of an error's message.
-fn item_text_below(alloc: Global, heap: &Heap, n: u32) -> Result<String, Fail> {
     match heap.get(n) {
-        Item::Text(units) => text_of(alloc, units),
-        _ => Ok(String::from_str(alloc, "no message")?),
+        Item::Text(units) => Ok(format!(in alloc; "\"{}\"", text_of(alloc, units)?)?),
+        Item::Error(kind, message) => {
+            let text = message_text(alloc, heap, *message)?;
+            Ok(format!(in alloc; "{kind:?} {text}")?)
+        }
+        Item::Plain(_) => Ok(String::from_str(alloc, "object")?),
+        Item::Array(_) => Ok(String::from_str(alloc, "array")?),
+        Item::Closure { .. } => Ok(String::from_str(alloc, "function")?),
+        _ => Ok(String::from_str(alloc, "another item")?),
     }
 }
 
