@@ -4,12 +4,12 @@
 //! in brackets, and an object in braces, each key with `:` and its leaf. Arguments have `; ` between them, and a form is its
 //! word and its name. A refusal is its kind, `@`, its byte, and its word.
 
+use anyhow::Error;
 use ivm_text::{Copy, CopyNode, Leaf, Units};
 use js_literals::{Argument, FormKind, SyntaxFault, arguments, literal};
 use std::alloc::Global;
-use std::test::Fail;
 
-pub fn copying(alloc: Global, text: &[u8]) -> Result<String, Fail> {
+pub fn copying(alloc: Global, text: &[u8]) -> Result<String, Error> {
     let mut line = String::new(alloc);
     if text.len() > 100_000 {
         return Ok(line);
@@ -21,7 +21,7 @@ pub fn copying(alloc: Global, text: &[u8]) -> Result<String, Fail> {
     Ok(line)
 }
 
-pub fn passing(alloc: Global, text: &[u8]) -> Result<String, Fail> {
+pub fn passing(alloc: Global, text: &[u8]) -> Result<String, Error> {
     let mut line = String::new(alloc);
     if text.len() > 100_000 {
         return Ok(line);
@@ -40,7 +40,7 @@ pub fn passing(alloc: Global, text: &[u8]) -> Result<String, Fail> {
     Ok(line)
 }
 
-fn show_argument(alloc: Global, line: &mut String, argument: &Argument) -> Result<(), Fail> {
+fn show_argument(alloc: Global, line: &mut String, argument: &Argument) -> Result<(), Error> {
     match argument {
         Argument::Literal(copy) => show_copy(alloc, line, copy),
         Argument::Form(form, name) => {
@@ -57,7 +57,7 @@ fn show_argument(alloc: Global, line: &mut String, argument: &Argument) -> Resul
     }
 }
 
-fn show_copy(alloc: Global, line: &mut String, copy: &Copy) -> Result<(), Fail> {
+fn show_copy(alloc: Global, line: &mut String, copy: &Copy) -> Result<(), Error> {
     show_leaf(alloc, line, copy.root)?;
     for node in copy.nodes.as_slice() {
         line.push(' ')?;
@@ -66,7 +66,7 @@ fn show_copy(alloc: Global, line: &mut String, copy: &Copy) -> Result<(), Fail> 
     Ok(())
 }
 
-fn show_node(alloc: Global, line: &mut String, node: &CopyNode) -> Result<(), Fail> {
+fn show_node(alloc: Global, line: &mut String, node: &CopyNode) -> Result<(), Error> {
     match node {
         CopyNode::Text(units) => {
             line.push('\'')?;
@@ -103,7 +103,7 @@ fn show_node(alloc: Global, line: &mut String, node: &CopyNode) -> Result<(), Fa
     Ok(())
 }
 
-fn show_leaf(alloc: Global, line: &mut String, leaf: Leaf) -> Result<(), Fail> {
+fn show_leaf(alloc: Global, line: &mut String, leaf: Leaf) -> Result<(), Error> {
     match leaf {
         Leaf::Undefined => line.push_str("undefined")?,
         Leaf::Null => line.push_str("null")?,
@@ -121,12 +121,12 @@ fn show_leaf(alloc: Global, line: &mut String, leaf: Leaf) -> Result<(), Fail> {
     Ok(())
 }
 
-fn show_units(alloc: Global, line: &mut String, units: &Units) -> Result<(), Fail> {
+fn show_units(alloc: Global, line: &mut String, units: &Units) -> Result<(), Error> {
     line.push_str(&String::from_utf8_lossy(alloc, &units.to_utf8(alloc)?)?)?;
     Ok(())
 }
 
-fn show_fault(alloc: Global, line: &mut String, fault: &SyntaxFault) -> Result<(), Fail> {
+fn show_fault(alloc: Global, line: &mut String, fault: &SyntaxFault) -> Result<(), Error> {
     match fault {
         SyntaxFault::Refused(refusal) => {
             let place = format!(in alloc; "{:?}@{}", refusal.kind, refusal.place)?;

@@ -4,12 +4,15 @@
 //! these has no parentheses. A Name is `NAME@BYTE`, a number `VALUE@BYTE`, a string `"TEXT"@BYTE`, an Absent `-`. A script is
 //! its statements in a row. A refusal is its kind, `@`, its byte, and its word.
 
+use crate::copying::{copying, passing};
+use crate::parsing::parsing;
+use crate::reading::reading;
+use anyhow::Error;
 use ivm_text::Units;
 use js_early::{EarlyFault, early};
 use js_parser::{SyntaxFault, parse};
 use js_syntax::{Kind, Node, Refusal, Script};
 use std::alloc::Global;
-use std::test::Fail;
 
 /// Longer texts are not read.
 const MOST: usize = 100_000;
@@ -17,69 +20,69 @@ const MOST: usize = 100_000;
 /// What is asked of a text.
 #[derive(Clone, Copy)]
 pub enum Look {
+    /// Its tokens, or its first fault.
+    Tokens,
+    /// Its nodes in the order of their numbers, or its refusal.
+    Nodes,
     /// Its trees, or its refusal.
     Trees,
     /// `taken` for a script, or the refusal.
     Taken,
     /// `checked` for a script without an early fault, or the refusal.
     Checked,
-}
-
-/// The rows whose text is not what the row wants, each with what was found.
-pub fn differing(alloc: Global, rows: &[(&str, &str)], look: Look) -> Result<String, Fail> {
-    let mut wrong = String::new(alloc);
-    for (text, wanted) in rows {
-        let found = outcome(alloc, text, look)?;
-        if found.as_str() != *wanted {
-            wrong.push_str(&format!(in alloc; "\n{text:?} is {found}, not {wanted}")?)?;
-        }
-    }
-    Ok(wrong)
+    /// The copy of a literal, or the refusal.
+    Copies,
+    /// What arguments stand for, or the refusal.
+    Arguments,
 }
 
 /// What is found of a text.
-pub fn outcome(alloc: Global, text: &str, look: Look) -> Result<String, Fail> {
+pub fn outcome(alloc: Global, text: &[u8], look: Look) -> Result<String, Error> {
     match look {
+        Look::Tokens => reading(alloc, text),
+        Look::Nodes => parsing(alloc, text),
         Look::Trees => trees(alloc, text),
         Look::Taken => taken(alloc, text),
         Look::Checked => checked(alloc, text),
+        Look::Copies => copying(alloc, text),
+        Look::Arguments => passing(alloc, text),
     }
 }
 
 /// The trees of a text, or its refusal.
-fn trees(alloc: Global, text: &str) -> Result<String, Fail> {
+fn trees(alloc: Global, text: &[u8]) -> Result<String, Error> {
     if text.len() > MOST {
         return Ok(String::new(alloc));
     }
-    match parse(alloc, text.as_bytes()) {
+    match parse(alloc, text) {
         Ok(script) => statements(alloc, &script),
         Err(fault) => refused(alloc, &fault),
     }
 }
 
 /// `taken` for a script, or the refusal of its text.
-fn taken(alloc: Global, text: &str) -> Result<String, Fail> {
+fn taken(alloc: Global, text: &[u8]) -> Result<String, Error> {
     if text.len() > MOST {
         return Ok(String::new(alloc));
     }
-    match parse(alloc, text.as_bytes()) {
+    match parse(alloc, text) {
         Ok(_) => Ok(String::from_str(alloc, "taken")?),
         Err(fault) => refused(alloc, &fault),
     }
 }
 
 /// `checked` for a script without an early fault, or the refusal of its text.
-fn checked(alloc: Global, text: &str) -> Result<String, Fail> {
+fn checked(alloc: Global, text: &[u8]) -> Result<String, Error> {
     if text.len() > MOST {
         return Ok(String::new(alloc));
     }
-    match parse(alloc, text.as_bytes()) {
+    match parse(alloc, text) {
         Ok(script) => checked_script(alloc, script),
         Err(fault) => refused(alloc, &fault),
     }
 }
 
-fn checked_script(alloc: Global, script: Script) -> Result<String, Fail> {
+fn checked_script(alloc: Global, script: Script) -> Result<String, Error> {
     match early(script) {
         Ok(_checked) => Ok(String::from_str(alloc, "checked")?),
         Err(fault) => match fault {
@@ -91,14 +94,14 @@ fn checked_script(alloc: Global, script: Script) -> Result<String, Fail> {
     }
 }
 
-fn refused(alloc: Global, fault: &SyntaxFault) -> Result<String, Fail> {
+fn refused(alloc: Global, fault: &SyntaxFault) -> Result<String, Error> {
     match fault {
         SyntaxFault::Refused(refusal) => refusal_line(alloc, refusal),
         SyntaxFault::NoMemory => Ok(String::from_str(alloc, "no memory")?),
     }
 }
 
-fn refusal_line(alloc: Global, refusal: &Refusal) -> Result<String, Fail> {
+fn refusal_line(alloc: Global, refusal: &Refusal) -> Result<String, Error> {
     let mut line = format!(in alloc; "{:?}@{}", refusal.kind, refusal.place)?;
     if let Some(word) = &refusal.word {
         line.push(' ')?;
@@ -107,14 +110,14 @@ fn refusal_line(alloc: Global, refusal: &Refusal) -> Result<String, Fail> {
     Ok(line)
 }
 
-fn push_units(alloc: Global, line: &mut String, units: &Units) -> Result<(), Fail> {
+fn push_units(alloc: Global, line: &mut String, units: &Units) -> Result<(), Error> {
     let text = String::from_utf8_lossy(alloc, &units.to_utf8(alloc)?)?;
     line.push_str(&text)?;
     Ok(())
 }
 
 /// The statements of a script, each node written from what was written of its kids.
-fn statements(alloc: Global, script: &Script) -> Result<String, Fail> {
+fn statements(alloc: Global, script: &Script) -> Result<String, Error> {
     let mut written = Vec::new(alloc);
     let mut last = String::new(alloc);
     for number in 0..script.len() {
@@ -136,7 +139,7 @@ fn push_node(
     line: &mut String,
     node: &Node,
     written: &[String],
-) -> Result<(), Fail> {
+) -> Result<(), Error> {
     match (node.kind, &node.name) {
         (Kind::Absent, _) if node.place == 0 => line.push('-')?,
         (Kind::Name, Some(name)) if node.name_place == node.place => {
@@ -155,7 +158,7 @@ fn push_node(
     Ok(())
 }
 
-fn push_place(alloc: Global, line: &mut String, place: u32) -> Result<(), Fail> {
+fn push_place(alloc: Global, line: &mut String, place: u32) -> Result<(), Error> {
     line.push_str(&format!(in alloc; "@{place}")?)?;
     Ok(())
 }
@@ -165,7 +168,7 @@ fn push_form(
     line: &mut String,
     node: &Node,
     written: &[String],
-) -> Result<(), Fail> {
+) -> Result<(), Error> {
     let head = format!(in alloc; "{:?}@{}", node.kind, node.place)?;
     let mut parts = String::new(alloc);
     if let Some(name) = &node.name {
@@ -191,14 +194,14 @@ fn push_form(
     Ok(())
 }
 
-fn push_space(line: &mut String) -> Result<(), Fail> {
+fn push_space(line: &mut String) -> Result<(), Error> {
     if !line.is_empty() {
         line.push(' ')?;
     }
     Ok(())
 }
 
-fn push_kids(line: &mut String, node: &Node, written: &[String]) -> Result<(), Fail> {
+fn push_kids(line: &mut String, node: &Node, written: &[String]) -> Result<(), Error> {
     let mut between = "";
     for kid in node.kids.as_slice() {
         line.push_str(between)?;

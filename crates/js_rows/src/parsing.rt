@@ -3,12 +3,12 @@
 //! The nodes stand in the order of their numbers, each as its kind, `@`, its byte, and its kids in brackets. A refusal is
 //! its kind, `@`, its byte, and its word.
 
+use anyhow::Error;
 use js_parser::{SyntaxFault, parse};
 use js_syntax::{Node, Script};
 use std::alloc::Global;
-use std::test::Fail;
 
-pub fn parsing(alloc: Global, text: &[u8]) -> Result<String, Fail> {
+pub fn parsing(alloc: Global, text: &[u8]) -> Result<String, Error> {
     if text.len() > 100_000 {
         return Ok(String::new(alloc));
     }
@@ -26,7 +26,7 @@ pub fn parsing(alloc: Global, text: &[u8]) -> Result<String, Fail> {
     }
 }
 
-fn nodes(alloc: Global, script: &Script) -> Result<String, Fail> {
+fn nodes(alloc: Global, script: &Script) -> Result<String, Error> {
     let mut line = String::new(alloc);
     for number in 0..script.len() {
         if !line.is_empty() {
@@ -37,7 +37,7 @@ fn nodes(alloc: Global, script: &Script) -> Result<String, Fail> {
     Ok(line)
 }
 
-fn show(alloc: Global, line: &mut String, node: &Node) -> Result<(), Fail> {
+fn show(alloc: Global, line: &mut String, node: &Node) -> Result<(), Error> {
     let head = format!(in alloc; "{:?}@{}", node.kind, node.place)?;
     line.push_str(&head)?;
     if let Some(name) = &node.name {

@@ -3,11 +3,11 @@
 //! A token is its kind (`w`, `p`, `n`, `t`), its byte, `:` and its text; a string is its units in hexadecimal with dots
 //! between them. `^` stands before a token behind a line terminator. A refusal is its kind, `@` and its byte.
 
+use anyhow::Error;
 use js_lexer::{SyntaxFault, Token, TokenKind, lex};
 use std::alloc::Global;
-use std::test::Fail;
 
-pub fn reading(alloc: Global, text: &[u8]) -> Result<String, Fail> {
+pub fn reading(alloc: Global, text: &[u8]) -> Result<String, Error> {
     if text.len() > 1000 {
         return Ok(String::new(alloc));
     }
@@ -29,7 +29,7 @@ pub fn reading(alloc: Global, text: &[u8]) -> Result<String, Fail> {
     }
 }
 
-fn show(alloc: Global, line: &mut String, token: &Token) -> Result<(), Fail> {
+fn show(alloc: Global, line: &mut String, token: &Token) -> Result<(), Error> {
     if token.after_line {
         line.push('^')?;
     }
@@ -45,7 +45,7 @@ fn show(alloc: Global, line: &mut String, token: &Token) -> Result<(), Fail> {
     Ok(())
 }
 
-fn body(alloc: Global, token: &Token) -> Result<String, Fail> {
+fn body(alloc: Global, token: &Token) -> Result<String, Error> {
     match token.kind {
         TokenKind::Num => Ok(format!(in alloc; "{}", token.number)?),
         TokenKind::Text => units(alloc, token),
@@ -53,7 +53,7 @@ fn body(alloc: Global, token: &Token) -> Result<String, Fail> {
     }
 }
 
-fn units(alloc: Global, token: &Token) -> Result<String, Fail> {
+fn units(alloc: Global, token: &Token) -> Result<String, Error> {
     let mut shown = String::new(alloc);
     for place in 0..token.text.len() {
         if let Some(unit) = token.text.get(place) {
