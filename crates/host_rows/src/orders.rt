@@ -13,7 +13,7 @@ context d b
 set s c x : -5
 get g c x
 wait g
-eval v d : 1 + 1
+eval v d timeout=250 : 1 + 1
 dispose e a
 get h c x
 wait
@@ -38,7 +38,7 @@ static TWO_TURNS: [Turn; 26] = [
     // the label `d` holds nothing yet
     Step("blocked"),
     Reply(1, Some(1), Context(4, 0)),
-    Step("post 1: call 4 eval 4 [1 + 1] in 1000000"),
+    Step("post 1: call 4 eval 4 [1 + 1] in 250"),
     Step("ask 0"),
     // the isolate was asked to stop
     Step("own"),
@@ -66,7 +66,7 @@ recv 0: call 3 done
 settle 3: Entry { isolate: 0, place: 2 }
 recv 1: call 1 context 4 row 0
 settle 1: Entry { isolate: 1, place: 0 }
-post 1: call 4 eval 4 [1 + 1] in 1000000
+post 1: call 4 eval 4 [1 + 1] in 250
 ask 0
 settle 6: Own(Disposed)
 recv 1: call 4 done

@@ -22,7 +22,7 @@ use Rattle.host_script.specs.declared.names.Named.{Named}
 use Rattle.host_script.specs.declared.names.Named.TheVariants.{Isolate, Context as ContextLabel, Call}
 use Rattle.host_script.specs.declared.text.Text.{Text}
 use Rattle.host_script.specs.declared.text.Text.TheVariants.{Missing, Open, Given}
-use Rattle.host_script.specs.Commands.{no_lines, cells_of, has_words, with_context, with_call, limit_given, limit_of, isolate_line, context_line, eval_text, eval_line, get_line, value_of, set_text, set_line, dispose_line, wait_line}
+use Rattle.host_script.specs.Commands.{no_lines, cells_of, has_words, with_context, with_call, limit_given, limit_of, timeout_given, budget_of, isolate_line, context_line, eval_text, eval_line, get_line, value_of, set_text, set_line, dispose_line, wait_line}
 use Rattle.host_script.specs.Faults.{◌>>=◌, fail}
 use Rattle.host_script.specs.HostText.{command_line, command_of, can_have_text, unless_bad, with_text, with_command, with_line, with_lines, is_skipped}
 use Rattle.host_script.specs.Literals.{literal_of, plain_literal, negative, number_of, lone_word, skip_spaces}
@@ -155,22 +155,34 @@ made_call draft label what call = (record { label = Some label; what = what }, l
     longer : length draft.script.commands < length (with_call draft label what).script.commands
     longer = omega (arith, length-append draft.script.commands ((record { label = Some label; what = what }) ∷ []))
 
+-- a number that the value of an option may be
+abbrev IsBetween : ℕ → ℕ → ℕ → Type 0
+IsBetween least most number = (least ≤ number) × (number ≤ most)
+
+number_holds : (least most n : ℕ) (value : List ℕ) → 1 ≤ n → Holds (IsBetween least most) (number_between least most n value)
+unfolding number_between
+number_holds least most n value some =
+    holds_found (IsBetween least most) (number_of value) _ (fail n BadNumber) (λ number found.
+    holds_if (IsBetween least most) (nat_le least number && nat_le number most) (Ok number) (fail n BadNumber) (both number) (λ _. some)) some
+  where
+    both : (number : ℕ) → (nat_le least number && nat_le number most) ≡ true → IsBetween least most number
+    both number e = grind (arith, nat_tests)
+
 -- a limit that a line may give
 abbrev IsLimit : ℕ → Type 0
-IsLimit limit = (1000 ≤ limit) × (limit ≤ 4000000)
-
-number_holds : (n : ℕ) (value : List ℕ) → 1 ≤ n → Holds IsLimit (number_between 1000 4000000 n value)
-unfolding number_between
-number_holds n value some =
-    holds_found IsLimit (number_of value) _ (fail n BadNumber) (λ number found.
-    holds_if IsLimit (nat_le 1000 number && nat_le number 4000000) (Ok number) (fail n BadNumber) (both number) (λ _. some)) some
-  where
-    both : (number : ℕ) → (nat_le 1000 number && nat_le number 4000000) ≡ true → IsLimit number
-    both number e = grind (arith, nat_tests)
+IsLimit = IsBetween 1000 4000000
 
 limit_holds : (n : ℕ) (given : Option (List ℕ)) → 1 ≤ n → Holds IsLimit (limit_of n given)
 limit_holds n None some = (omega arith, omega arith)
-limit_holds n (Some value) some = number_holds n value some
+limit_holds n (Some value) some = number_holds 1000 4000000 n value some
+
+-- a budget that a line may give
+abbrev IsBudget : ℕ → Type 0
+IsBudget = IsBetween 1 100000000
+
+budget_holds : (n : ℕ) (given : Option (List ℕ)) → 1 ≤ n → Holds IsBudget (budget_of n given)
+budget_holds n None some = (omega arith, omega arith)
+budget_holds n (Some value) some = number_holds 1 100000000 n value some
 
 isolate_line_holds : (n : ℕ) (draft : Draft) (words : List ℕ) (text : Option (List ℕ)) → 1 ≤ n → IsSound draft → Holds IsSound (isolate_line n draft words text)
 unfolding isolate_line
@@ -208,10 +220,11 @@ eval_line_holds : (n : ℕ) (draft : Draft) (words : List ℕ) (text : Option (L
 unfolding eval_line
 eval_line_holds n draft words text some short sound =
     holds_found IsSound text (eval_text n draft words) (fail n BadWords) (λ t given.
-    holds_if IsSound (not (word_count words == 2)) _ _ (λ _. some) (λ _.
+    holds_if IsSound (not (word_count words == words_with 2 (timeout_given words))) _ _ (λ _. some) (λ _.
     holds_then (IsNew draft) IsSound (new_name n draft.names (word 0 words)) _ (new_name_holds n draft (word 0 words) some) (λ label new.
     holds_then (MakesContext draft.script.commands (length draft.script.commands)) IsSound (context_named n draft.names (word 1 words)) _ (context_holds n draft (word 1 words) some sound) (λ context made.
-    sound_call draft label (Eval context 1000000 Value t) (Call (length draft.script.commands)) sound new refl (made, omega arith, omega arith, refl, short t given) (made_call draft label (Eval context 1000000 Value t) refl))))) some
+    holds_then IsBudget IsSound (budget_of n (timeout_given words)) _ (budget_holds n (timeout_given words) some) (λ budget allowed.
+    sound_call draft label (Eval context budget Value t) (Call (length draft.script.commands)) sound new refl (made, allowed.0, allowed.1, refl, short t given) (made_call draft label (Eval context budget Value t) refl)))))) some
 
 get_line_holds : (n : ℕ) (draft : Draft) (words : List ℕ) (text : Option (List ℕ)) → 1 ≤ n → IsSound draft → Holds IsSound (get_line n draft words text)
 unfolding get_line

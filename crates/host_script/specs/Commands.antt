@@ -43,9 +43,17 @@ most_limit = 4000000
 abbrev pub usual_limit : ℕ
 usual_limit = 1000000
 
--- the ticks in which a text may run
-abbrev pub ticks : ℕ
-ticks = 1000000
+-- the least budget, in ticks, in which a text may run
+abbrev pub least_budget : ℕ
+least_budget = 1
+
+-- the greatest budget in which one may run
+abbrev pub most_budget : ℕ
+most_budget = 100000000
+
+-- the budget of one whose line gives none
+abbrev pub usual_budget : ℕ
+usual_budget = 1000000
 
 -- ---- a script, with one command more
 
@@ -120,15 +128,24 @@ context_line n draft words text =
     isolate_named n draft.names (word 1 words) >>= λ isolate.
     Ok (with_context draft label isolate))
 
--- `eval LABEL CONTEXT` with this text
+-- what the word behind the names gives to `timeout`; none where it is no such option
+abbrev pub timeout_given : List ℕ → Option (List ℕ)
+timeout_given words = given_to (codes "timeout=") (word 2 words)
+
+-- the budget of a text on line n, by what is given
+abbrev pub budget_of : ℕ → Option (List ℕ) → Result ℕ HostFault
+budget_of n given = option_map_or (number_between least_budget most_budget n) given (Ok usual_budget)
+
+-- `eval LABEL CONTEXT`, `eval LABEL CONTEXT timeout=N`, each with this text
 abbrev pub eval_text : ℕ → Draft → List ℕ → List ℕ → Result Draft HostFault
 eval_text n draft words text =
-    if not (word_count words == 2) then fail n BadWords
+    if not (word_count words == words_with 2 (timeout_given words)) then fail n BadWords
     else (new_name n draft.names (word 0 words) >>= λ label.
     context_named n draft.names (word 1 words) >>= λ context.
-    Ok (with_call draft label (Eval context ticks Value text)))
+    budget_of n (timeout_given words) >>= λ budget.
+    Ok (with_call draft label (Eval context budget Value text)))
 
--- `eval LABEL CONTEXT TEXT`
+-- `eval LABEL CONTEXT TEXT`, `eval LABEL CONTEXT timeout=N TEXT`
 unfoldable pub eval_line : ℕ → Draft → List ℕ → Option (List ℕ) → Result Draft HostFault
 eval_line n draft words text = option_map_or (eval_text n draft words) text (fail n BadWords)
 

@@ -4,7 +4,7 @@ ghost use Rattle.std.specs.Option.{option_copied};
 ghost use Rattle.std.specs.Str.{IsUtf8};
 ghost use Rattle.ivm_text.specs.Text.{units_of};
 ghost use Rattle.host_script.specs.Faults.{Gives};
-ghost use Rattle.host_script.specs.Commands.{limit_of, isolate_line, context_line, eval_line, get_line, set_line, dispose_line, wait_line};
+ghost use Rattle.host_script.specs.Commands.{limit_of, budget_of, isolate_line, context_line, eval_line, get_line, set_line, dispose_line, wait_line};
 ghost use Rattle.host_script.specs.HostText.{command_of, can_have_text, command_line};
 
 use crate::draft::Draft;
@@ -27,7 +27,11 @@ const MOST_LIMIT: u32 = 4_000_000;
 
 const USUAL_LIMIT: u32 = 1_000_000;
 
-const TICKS: u32 = 1_000_000;
+const LEAST_BUDGET: u32 = 1;
+
+const MOST_BUDGET: u32 = 100_000_000;
+
+const USUAL_BUDGET: u32 = 1_000_000;
 
 // The word that a command begins with.
 #[derive(Clone, Copy, Debug, PartialEq, Eq)]
@@ -108,6 +112,16 @@ fn limit_of(line: u32, given: Option<&[u8]>) -> Result<u32, HostFault>
     }
 }
 
+// The budget of a text in ticks, by what its line gives.
+fn budget_of(line: u32, given: Option<&[u8]>) -> Result<u32, HostFault>
+    ensures { Gives (λ budget. budget) result (budget_of line (option_copied given.entry)) }
+{
+    match given {
+        Some(value) => number_between(LEAST_BUDGET, MOST_BUDGET, line, value),
+        None => Ok(USUAL_BUDGET),
+    }
+}
+
 impl Draft {
     // Adds a command, of which these words and this text stand behind its first word.
     #[tactic(auto, unfolding(crate::specs::HostText::command_line))]
@@ -180,7 +194,7 @@ impl Draft {
         self.add_context(alloc, label, isolate)
     }
 
-    // `eval LABEL CONTEXT TEXT`
+    // `eval LABEL CONTEXT TEXT`, `eval LABEL CONTEXT timeout=N TEXT`
     #[tactic(auto, unfolding(crate::specs::Commands::eval_line))]
     fn eval(
         &mut self,
@@ -195,14 +209,16 @@ impl Draft {
         let Some(text) = text else {
             return Err(at(number, HostKind::BadWords));
         };
-        if words.count != 2 {
+        let given = given_to(b"timeout=", words.third);
+        if words.count != words_with(2, given) {
             return Err(at(number, HostKind::BadWords));
         }
         let label = self.names.new_name(alloc, number, words.first)?;
         let context = self.names.context(alloc, number, words.second)?;
+        let budget = budget_of(number, given)?;
         let what = What::Eval {
             context,
-            budget: TICKS,
+            budget,
             want: Want::Value,
             text,
         };

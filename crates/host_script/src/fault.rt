@@ -36,7 +36,8 @@ pub enum HostKind {
     /// The name that is used stands for a thing of another kind.
     #[error("WrongKind")]
     WrongKind,
-    /// The value of `limit` isn't a decimal number from 1,000 to 4,000,000 without a superfluous zero.
+    /// The value of an option isn't a decimal number without a superfluous zero: of `limit` one from 1,000
+    /// to 4,000,000, of `timeout` one from 1 to 100,000,000.
     #[error("BadNumber")]
     BadNumber,
     /// The text of a `set` isn't one primitive literal.

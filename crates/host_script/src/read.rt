@@ -30,8 +30,8 @@ const MOST_BYTES: usize = 4_194_304;
 /// - `UnknownName`: no earlier line gave the name that is used.
 /// - `WrongKind`: the name that is used is an isolate's, a context's or another call's where one of
 ///   another kind is wanted.
-/// - `BadNumber`: what is given to `limit` isn't a decimal number from 1,000 to 4,000,000 without a
-///   superfluous zero.
+/// - `BadNumber`: what is given to an option isn't a decimal number without a superfluous zero: to `limit`
+///   one from 1,000 to 4,000,000, to `timeout` one from 1 to 100,000,000.
 /// - `BadLiteral`: the text of a `set` isn't one primitive literal.
 /// - `TooManyIsolates`: it is the 65th `isolate`.
 /// - `TotalCells`: the limits of the isolates so far, together, pass 16,000,000 cells; one whose line gives
