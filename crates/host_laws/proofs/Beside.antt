@@ -1,8 +1,6 @@
 -- An isolate at work beside the host's history, in any order of posting, carrying out and receiving.
-use Rattle.std.proofs.Common.{◌≡◌, ℕ, ◌≤◌, List, [], ◌∷◌, ◌++◌, length, Bool, true, false, ◌||◌, Some, None, refl, subst, sym, ap, ◌∙◌, arith, inl, inr, append-nil, append_assoc, length-append}
-use Rattle.std.proofs.lemmas.Bool.{cases_Bool}
+use Rattle.std.proofs.Common.{◌≡◌, ℕ, ◌≤◌, List, [], ◌∷◌, ◌++◌, length, true, false, Some, None, refl, subst, sym, ap, ◌∙◌, arith, inl, inr, append-nil, append_assoc, length-append}
 use Rattle.std.proofs.lemmas.List.Concat.{flat_map-append}
-use Rattle.std.proofs.lemmas.List.Folds.{list_any-append}
 use Rattle.std.proofs.lemmas.List.Elements.{Contains-append_left, Contains-append_right, Contains-push_cases}
 use Rattle.std.specs.List.{Contains}
 use Rattle.task_history.specs.declared.task.Task.{Task}
@@ -15,13 +13,13 @@ use Rattle.task_history.specs.declared.outcome.Out.TheVariants.{Reply}
 use Rattle.task_history.specs.declared.record.Entry.{Entry}
 use Rattle.task_history.specs.declared.record.Event.{Event}
 use Rattle.task_history.specs.declared.record.Event.TheVariants.{Post, Recv}
-use Rattle.task_history.specs.Lists.{listed, tasks, outs, receives, post_of, receive_of, is_asked, asks_it, is_disposal, has_disposal}
-use Rattle.isolate_meaning.specs.State.{Isolate, fresh, is_ended}
+use Rattle.task_history.specs.Lists.{listed, tasks, outs, receives, post_of, receive_of, is_asked, asks_it}
+use Rattle.isolate_meaning.specs.State.{ended, Isolate, fresh}
 use Rattle.isolate_meaning.specs.Does.{Does, HostStop}
-use Rattle.isolate_meaning.specs.Replay.{Stands}
+use Rattle.isolate_meaning.specs.Replay.{Replay, Stands}
 use Rattle.isolate_meaning.specs.Known.{NamesKnown, IsKnown}
 use Rattle.isolate_meaning.proofs.Replays.{replay_more, task_of_entry, stands_itself}
-use Rattle.isolate_meaning.proofs.Ends.{ended_by_entry, ended_of_journal, quiet_task}
+use Rattle.isolate_meaning.proofs.Ends.{by_host_task, told_by_journal}
 use Rattle.host_meaning.specs.Course.{Worker, idle}
 use Rattle.host_meaning.specs.Lawful.{IsCaused, IsCausedBy}
 use Rattle.host_laws.specs.Courses.{IsBeside}
@@ -48,7 +46,7 @@ beside_idle i limit = record {
   replays = refl;
   posted = refl;
   told = refl;
-  stop = λ e. let no : ⊥ = cc in absurd no;
+  stop = λ e. absurd (cc e);
   caused = tt;
   known = λ task there. absurd (none_there task there);
 }
@@ -70,7 +68,7 @@ beside_quiet i limit history event worker no_post no_receipt by beside =
       replays = beside.replays;
       posted = by_quiet (post_of i) history event no_post ∙ beside.posted;
       told = beside.told ∙ ap (λ x. x ++ worker.sent) (sym heard);
-      stop = λ has_ended. still_asked i history (event ∷ []) (beside.stop has_ended);
+      stop = λ by_host. still_asked i history (event ∷ []) (beside.stop by_host);
       caused = caused_push i worker.journal history event by beside.caused;
       known = λ task there. subst (λ x. IsKnown x task) (sym heard) (beside.known task there);
     }
@@ -84,7 +82,7 @@ beside_post i limit history task worker known beside =
       replays = beside.replays;
       posted = posts_post_here i history task ∙ ap (λ x. x ++ task ∷ []) beside.posted ∙ append_assoc (tasks worker.journal) worker.waiting (task ∷ []);
       told = beside.told ∙ ap (λ x. x ++ worker.sent) (sym heard);
-      stop = λ has_ended. still_asked i history (Post i task ∷ []) (beside.stop has_ended);
+      stop = λ by_host. still_asked i history (Post i task ∷ []) (beside.stop by_host);
       caused = caused_push i worker.journal history (Post i task) tt beside.caused;
       known = λ other there. subst (λ x. IsKnown x other) (sym heard)
           (elim (Contains-push_cases worker.waiting task other there) as (λ x. IsKnown (receives i history) other) [
@@ -94,16 +92,6 @@ beside_post i limit history task worker known beside =
     }
 
 -- ---- a receipt
-
-true_or : (a b : Bool) → (a || (true || b)) ≡ true
-true_or true b = refl
-true_or false b = refl
-
-disposal_there : (front rest : List Entry) (entry : Entry) → entry.outcome ≡ outcome.Disposed Host → has_disposal (front ++ entry ∷ rest) ≡ true
-disposal_there front rest entry is =
-    list_any-append (λ (e : Entry). is_disposal e.outcome) front (entry ∷ rest)
-    ∙ ap (λ x. has_disposal front || (is_disposal x || has_disposal rest)) is
-    ∙ true_or (has_disposal front) (has_disposal rest)
 
 tasks_before : (front rest : List Entry) (entry : Entry) → length (tasks (front ++ entry ∷ [])) ≤ length (tasks (front ++ entry ∷ rest))
 tasks_before front rest entry =
@@ -120,7 +108,7 @@ caused_next i limit history worker beside front entry stands =
     let posted = ap length beside.posted in
     let parts = length-append (tasks worker.journal) worker.waiting in (
       grind (arith, few, whole, posted, parts),
-      λ is. beside.stop (sym (ended_of_journal i limit worker.journal worker.isolate beside.replays) ∙ ap has_disposal stands.whole ∙ disposal_there front stands.rest entry is),
+      λ is. beside.stop (told_by_journal (fresh i limit) worker.isolate front stands.rest entry Host (subst (λ j. Replay (fresh i limit) j worker.isolate) stands.whole beside.replays) is),
     )
 
 -- the first out that it sent is received
@@ -132,7 +120,7 @@ beside_receive i limit history out later worker first beside =
       replays = beside.replays;
       posted = by_quiet (post_of i) history (Recv i out) refl ∙ beside.posted;
       told = beside.told ∙ ap (λ x. receives i history ++ x) first ∙ sym (append_assoc (receives i history) (out ∷ []) later) ∙ ap (λ x. x ++ later) (sym heard);
-      stop = λ has_ended. still_asked i history (Recv i out ∷ []) (beside.stop has_ended);
+      stop = λ by_host. still_asked i history (Recv i out ∷ []) (beside.stop by_host);
       caused = caused_push i worker.journal history (Recv i out) (λ e. caused_next i limit history worker beside) beside.caused;
       known = λ task there. subst (λ x. IsKnown x task) (sym heard) (known_more (receives i history) (out ∷ []) task (beside.known task there));
     }
@@ -144,7 +132,7 @@ abbrev pub with_entry : Worker → Isolate → Entry → List Task → Worker
 with_entry worker isolate entry later = record { isolate = isolate; journal = worker.journal ++ entry ∷ []; waiting = later; sent = worker.sent ++ entry.outs }
 
 beside_entry : (i limit : ℕ) (history : List Event) (worker : Worker) (isolate : Isolate) (entry : Entry) (later : List Task) → Stands entry.task worker.isolate isolate entry
-    → worker.waiting ≡ listed entry.task ++ later → (is_ended isolate.state ≡ true → is_asked i history ≡ true)
+    → worker.waiting ≡ listed entry.task ++ later → (isolate.state ≡ ended Host → is_asked i history ≡ true)
     → IsBeside i limit history worker → IsBeside i limit history (with_entry worker isolate entry later)
 beside_entry i limit history worker isolate entry later stands first stop beside =
     let told = ap length beside.told in
@@ -166,18 +154,12 @@ beside_entry i limit history worker isolate entry later stands first stop beside
 pub beside_perform : (i limit : ℕ) (history : List Event) (worker : Worker) (task : Task) (later : List Task) (isolate : Isolate) (entry : Entry) → worker.waiting ≡ task ∷ later → Does task worker.isolate isolate entry
     → IsBeside i limit history worker → IsBeside i limit history (with_entry worker isolate entry later)
 beside_perform i limit history worker task later isolate entry first does beside =
-    let ends = ended_by_entry (Some task) worker.isolate isolate entry does in
-    let stop : is_ended isolate.state ≡ true → is_asked i history ≡ true = λ has_ended.
-    elim (cases_Bool (is_ended worker.isolate.state)) as (λ x. is_asked i history ≡ true) [
-      | inl was ↦ beside.stop was
-      | inr lived ↦ (let quiet = quiet_task task worker.isolate isolate entry does lived in let no : ⊥ = grind (arith, ends, quiet, lived, has_ended) in absurd no)
-    ] in
     beside_entry i limit history worker isolate entry later (stands_itself (Some task) worker.isolate isolate entry does)
-    (first ∙ ap (λ x. listed x ++ later) (sym (task_of_entry (Some task) worker.isolate isolate entry does))) stop beside
+    (first ∙ ap (λ x. listed x ++ later) (sym (task_of_entry (Some task) worker.isolate isolate entry does))) (λ by_host. beside.stop (by_host_task task worker.isolate isolate entry does by_host)) beside
 
 -- it was asked to stop, and does
 pub beside_stop : (i limit : ℕ) (history : List Event) (worker : Worker) (isolate : Isolate) (entry : Entry) → is_asked i history ≡ true → HostStop worker.isolate isolate entry
     → IsBeside i limit history worker → IsBeside i limit history (with_entry worker isolate entry worker.waiting)
 beside_stop i limit history worker isolate entry asked stop beside =
     beside_entry i limit history worker isolate entry worker.waiting (stands_itself None worker.isolate isolate entry stop)
-    (ap (λ x. listed x ++ worker.waiting) (sym (task_of_entry None worker.isolate isolate entry stop))) (λ has_ended. asked) beside
+    (ap (λ x. listed x ++ worker.waiting) (sym (task_of_entry None worker.isolate isolate entry stop))) (λ by_host. asked) beside

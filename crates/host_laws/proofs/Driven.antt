@@ -10,7 +10,7 @@ use Rattle.task_history.specs.declared.outcome.Out.{Out}
 use Rattle.task_history.specs.declared.record.Entry.{Entry}
 use Rattle.task_history.specs.declared.record.Event.{Event}
 use Rattle.task_history.specs.declared.outcome.By.{By}
-use Rattle.isolate_meaning.specs.State.{Context, State, live, ended, is_ended}
+use Rattle.isolate_meaning.specs.State.{Contents, State, live, ended, cells_of, is_ended}
 use Rattle.isolate_meaning.specs.Fits.{Fits}
 use Rattle.isolate_meaning.specs.Does.{Does, HostStop, stop_entry}
 use Rattle.isolate_meaning.specs.Replay.{Kept, fresh_cell, isolate_in, FitsUnlessVoid, MayPerform, Performs, stopped, stopped_at}
@@ -170,8 +170,8 @@ pub performed_replies : (task : Task) (old new : Kept) → Performs task old new
 performed_replies task old new p = subst AreReplies (sym (outs_performed task old new p)) (by_entry (Some task) (isolate_in old p.before) (isolate_in old p.after) p.entry p.does)
 
 -- a stop of a live cell
-stop_live : (old : Kept) (contexts : List Context) → old.state ≡ Some (live contexts) → stopped old ≡ record old { journal = old.journal ++ stop_entry ∷ []; state = Some (ended Host) }
-stop_live old contexts is = ap (stopped_at old) is
+stop_live : (old : Kept) (contents : Contents) → old.state ≡ Some (live contents) → stopped old ≡ record old { journal = old.journal ++ stop_entry (cells_of contents) ∷ []; state = Some (ended Host) }
+stop_live old contents is = ap (stopped_at old) is
 
 -- a stop of an ended one
 stop_ended : (old : Kept) (by : By) → old.state ≡ Some (ended by) → stopped old ≡ old
@@ -180,8 +180,8 @@ stop_ended old by is = ap (stopped_at old) is
 none_joined : (journal : List Entry) → outs_at journal (length journal) ≡ []
 none_joined journal = ap outs_of (slice_get_past journal (length journal) (grind arith))
 
-stop_replies : AreReplies stop_entry.outs
-stop_replies = by_entry None (isolate_in stopping (live [])) (isolate_in stopping (ended Host)) stop_entry (record { contexts = []; was_live = refl; ends = refl; noted = refl })
+stop_replies : (contents : Contents) → AreReplies (stop_entry (cells_of contents)).outs
+stop_replies contents = by_entry None (isolate_in stopping (live contents)) (isolate_in stopping (ended Host)) (stop_entry (cells_of contents)) (record { contents = contents; was_live = refl; ends = refl; noted = refl })
   where
     stopping : Kept
     stopping = fresh_cell 0 0
@@ -191,7 +191,7 @@ no_replies out there = absurd (none_there out there)
 
 replies_by : (old : Kept) (state : Option State) → old.state ≡ state → AreReplies (outs_at (stopped_at old state).journal (length old.journal))
 replies_by old None is = subst AreReplies (sym (none_joined old.journal)) no_replies
-replies_by old (Some (live contexts)) is = subst AreReplies (sym (outs_joined old.journal stop_entry)) stop_replies
+replies_by old (Some (live contents)) is = subst AreReplies (sym (outs_joined old.journal (stop_entry (cells_of contents)))) (stop_replies contents)
 replies_by old (Some (ended by)) is = subst AreReplies (sym (none_joined old.journal)) no_replies
 
 pub stopped_replies : (old : Kept) → AreReplies (outs_at (stopped old).journal (length old.journal))
@@ -238,14 +238,15 @@ module _ (script : HostScript) (stand : Stand) (cells : List Kept) (are : CellsA
   ask_by : (next last : Stand) (m : Move) (i : ℕ) (old new : Kept) (state : Option State) → old.state ≡ state → (m, next) ≡ turn stand → m ≡ Ask i → slice_get cells i ≡ Some old → new ≡ stopped old
       → last ≡ received_all next i (outs_at new.journal (length old.journal)) → CellsAre script last (slice_set cells i new)
   ask_by next last m i old new None was is asked at stop heard = absurd (subst HasState was (are.none_void i old at))
-  ask_by next last m i old new (Some (live contexts)) was is asked at stop heard =
+  ask_by next last m i old new (Some (live contents)) was is asked at stop heard =
       let isolate = isolate_in old (ended Host) in
-      let now : new ≡ record old { journal = old.journal ++ stop_entry ∷ []; state = Some (ended Host) } = stop ∙ stop_live old contexts was in
-      let host_stop : HostStop (worker_of old).isolate isolate stop_entry = record { contexts = contexts; was_live = ap state_or_end was; ends = refl; noted = refl } in
-      let workers : map worker_of (slice_set cells i new) ≡ slice_set (map worker_of cells) i (after_entry (worker_of old) isolate stop_entry) =
+      let entry = stop_entry (cells_of contents) in
+      let now : new ≡ record old { journal = old.journal ++ entry ∷ []; state = Some (ended Host) } = stop ∙ stop_live old contents was in
+      let host_stop : HostStop (worker_of old).isolate isolate entry = record { contents = contents; was_live = ap state_or_end was; ends = refl; noted = refl } in
+      let workers : map worker_of (slice_set cells i new) ≡ slice_set (map worker_of cells) i (after_entry (worker_of old) isolate entry) =
       map-set worker_of cells i new ∙ ap (λ c. slice_set (map worker_of cells) i (worker_of c)) now in
-      let sent : outs_at new.journal (length old.journal) ≡ stop_entry.outs = ap (λ (c : Kept). outs_at c.journal (length old.journal)) now ∙ outs_joined old.journal stop_entry in
-      let stands : last ≡ received_all (turn stand).1 i stop_entry.outs = heard ∙ ap (received_all next i) sent ∙ ap (λ s. received_all s i stop_entry.outs) (ap (λ x. x.1) is) in
+      let sent : outs_at new.journal (length old.journal) ≡ entry.outs = ap (λ (c : Kept). outs_at c.journal (length old.journal)) now ∙ outs_joined old.journal entry in
+      let stands : last ≡ received_all (turn stand).1 i entry.outs = heard ∙ ap (received_all next i) sent ∙ ap (λ s. received_all s i entry.outs) (ap (λ x. x.1) is) in
       goes_to last (slice_set cells i new)
       (stops (record {
         i = i;
@@ -253,9 +254,9 @@ module _ (script : HostScript) (stand : Stand) (cells : List Kept) (are : CellsA
         worker = worker_of old;
         at = worker_there i old at;
         isolate = isolate;
-        entry = stop_entry;
+        entry = entry;
         stop = host_stop;
-        now = ap (λ s. scene_with s (map worker_of (slice_set cells i new))) stands ∙ ap (scene_with (received_all (turn stand).1 i stop_entry.outs)) workers;
+        now = ap (λ s. scene_with s (map worker_of (slice_set cells i new))) stands ∙ ap (scene_with (received_all (turn stand).1 i entry.outs)) workers;
       }))
       (each_set (λ (c : Kept). HasState c.state) cells i new (subst (λ (c : Kept). HasState c.state) (sym now) tt) are.none_void)
   ask_by next last m i old new (Some (ended by)) was is asked at stop heard =

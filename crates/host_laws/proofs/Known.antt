@@ -17,12 +17,12 @@ use Rattle.task_history.specs.declared.outcome.Out.TheVariants.{Reply}
 use Rattle.task_history.specs.declared.record.Entry.{Entry}
 use Rattle.task_history.specs.declared.record.Event.{Event}
 use Rattle.task_history.specs.declared.record.Event.TheVariants.{Post, Recv, Ask, Release, Settle}
-use Rattle.isolate_meaning.specs.State.{State, live, ended, Isolate, fresh, IsPlain}
-use Rattle.isolate_meaning.specs.Fits.{IsPrimitive}
+use Rattle.isolate_meaning.specs.State.{State, live, ended, Isolate, fresh, cells_of}
+use Rattle.isolate_meaning.specs.Fits.{IsPlainLeaf, IsPrimitive}
 use Rattle.isolate_meaning.specs.Does.{DoesTo, acts, refuses, stop_entry}
 use Rattle.isolate_meaning.specs.Replay.{Replay, Stands}
 use Rattle.isolate_meaning.specs.Known.{TellsContext, IsKnown}
-use Rattle.isolate_meaning.specs.Laws.{IsContextReply}
+use Rattle.isolate_meaning.specs.Laws.{IsContextReply, IsMemoryLimit}
 use Rattle.isolate_meaning.proofs.Told.{context_reply}
 use Rattle.host_syntax.specs.declared.script.HostScript.{HostScript}
 use Rattle.host_syntax.specs.declared.script.Command.{Command}
@@ -44,9 +44,9 @@ use Rattle.host_laws.proofs.Replied.{IsReplied, held_are_replied}
 
 -- ---- what a reply tells of its task
 
--- the making of a context is answered by the context, whose global object has the row of the same number, or by the isolate's end
+-- the making of a context is answered by the context with the row of its global object, or by the isolate's end
 abbrev pub AnswersContext : Outcome → Type 0
-AnswersContext out = ((n : ℕ) × (out ≡ outcome.Context n n)) ⊎ (is_disposal out ≡ true)
+AnswersContext out = ((n row : ℕ) × (out ≡ outcome.Context n row)) ⊎ (is_disposal out ≡ true)
 
 -- a task of these has call n, and where it makes a context, the outcome answers that
 pub record IsAnswer (done : List Task) (n : ℕ) (out : Outcome) : Type 0 where
@@ -55,8 +55,13 @@ pub record IsAnswer (done : List Task) (n : ℕ) (out : Outcome) : Type 0 where
   pub named : task.call ≡ Some n
   pub makes : task.kind ≡ kind.Context → AnswersContext out
 
+limit_tells : (out : Outcome) → IsMemoryLimit out → is_disposal out ≡ true
+limit_tells (outcome.MemoryLimit charged asked limit) passed = refl
+limit_tells _ passed = absurd passed
+
 context_answer : (state : State) (out : Outcome) → IsContextReply state out → AnswersContext out
-context_answer (live contexts) out is = inl (length contexts, is)
+context_answer (live contents) out (inl is) = inl (length contents.contexts, length contents.rows, is)
+context_answer (live contents) out (inr passed) = inr (limit_tells out passed)
 context_answer (ended by) out is = inr (ap is_disposal is)
 
 only_one : (x y : Out) → Contains (x ∷ []) y → x ≡ y
@@ -64,8 +69,8 @@ only_one x y there = elim (Contains-push_cases [] x y there) as (λ r. x ≡ y) 
 
 -- an entry sends its outcome alone, as the reply to its task's call
 reply_of_deed : (task : Task) (old new : State) (entry : Entry) (n : ℕ) (out : Outcome) → DoesTo task old new entry → Contains entry.outs (Reply (Some n) out) → (task.call ≡ Some n) × (entry.outcome ≡ out)
-reply_of_deed task old new entry n out (acts {out = told} deed) here =
-    let same : Reply task.call told ≡ Reply (Some n) out = only_one (Reply task.call told) (Reply (Some n) out) here in
+reply_of_deed task old new entry n out (acts {done = done} deed) here =
+    let same : Reply task.call done.out ≡ Reply (Some n) out = only_one (Reply task.call done.out) (Reply (Some n) out) here in
     (cc, cc)
 reply_of_deed task old new entry n out (refuses {by = by}) here =
     let same : Reply task.call (outcome.Disposed by) ≡ Reply (Some n) out = only_one (Reply task.call (outcome.Disposed by)) (Reply (Some n) out) here in
@@ -73,7 +78,7 @@ reply_of_deed task old new entry n out (refuses {by = by}) here =
 
 answer_of_entry : (task : Option Task) (old new : Isolate) (entry : Entry) (n : ℕ) (out : Outcome) → Stands task old new entry → Contains entry.outs (Reply (Some n) out) → IsAnswer (listed task) n out
 answer_of_entry None old new entry n out stop here =
-    let among : Contains stop_entry.outs (Reply (Some n) out) = subst (λ (e : Entry). Contains e.outs (Reply (Some n) out)) stop.noted here in
+    let among : Contains (stop_entry (cells_of stop.contents)).outs (Reply (Some n) out) = subst (λ (e : Entry). Contains e.outs (Reply (Some n) out)) stop.noted here in
     let same : Reply None (outcome.Disposed Host) ≡ Reply (Some n) out = only_one (Reply None (outcome.Disposed Host)) (Reply (Some n) out) among in
     let no : ⊥ = cc in absurd no
 answer_of_entry (Some task) old new entry n out deed here =
@@ -155,7 +160,7 @@ module _ (script : HostScript) (stand : Stand) (run : HostRun script stand) (ser
   -- what such a reply makes of the call
   told_by : (isolate n : ℕ) (now : Held) (out : Outcome) → is_gone isolate stand.history ≡ false → Contains (receives isolate stand.history) (Reply (Some n) out) → now ≡ held_by out → AnswersContext out
       → TellsContext (receives isolate stand.history) (context_in (Some now)) (row_in (Some now))
-  told_by isolate n now out here heard is (inl (c, makes)) =
+  told_by isolate n now out here heard is (inl (c, row, makes)) =
       subst (λ h. TellsContext (receives isolate stand.history) (context_in (Some h)) (row_in (Some h))) (sym (is ∙ ap held_by makes))
       (Some n, subst (λ o. Contains (receives isolate stand.history) (Reply (Some n) o)) makes heard)
   told_by isolate n now out here heard is (inr over) =
@@ -187,7 +192,7 @@ module _ (script : HostScript) (stand : Stand) (run : HostRun script stand) (ser
 
 -- ---- what a request asks for
 
-plain_leaf : (leaf : Leaf) → IsPrimitiveLeaf leaf → IsPlain leaf
+plain_leaf : (leaf : Leaf) → IsPrimitiveLeaf leaf → IsPlainLeaf leaf
 plain_leaf Undefined is = tt
 plain_leaf Null is = tt
 plain_leaf (Boolean b) is = tt

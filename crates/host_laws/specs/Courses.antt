@@ -4,8 +4,9 @@ use Rattle.std.specs.Prelude.{◌≡◌, ℕ, List, [], ◌∷◌, ◌++◌, tru
 use Rattle.std.specs.List.{Contains}
 use Rattle.task_history.specs.Lists.{tasks, outs, posts, receives, is_asked}
 use Rattle.task_history.specs.declared.task.Task.{Task}
+use Rattle.task_history.specs.declared.outcome.By.TheVariants.{Host}
 use Rattle.task_history.specs.declared.record.Event.{Event}
-use Rattle.isolate_meaning.specs.State.{fresh, is_ended}
+use Rattle.isolate_meaning.specs.State.{ended, fresh}
 use Rattle.isolate_meaning.specs.Fits.{Fits}
 use Rattle.isolate_meaning.specs.Known.{IsKnown}
 use Rattle.isolate_meaning.specs.Replay.{Replay}
@@ -23,8 +24,8 @@ pub record IsBeside (i limit : ℕ) (history : List Event) (worker : Worker) : T
   pub posted : posts i history ≡ tasks worker.journal ++ worker.waiting
   -- what it sent was received or is on its way, in order
   pub told : outs worker.journal ≡ receives i history ++ worker.sent
-  -- it ends only where it was asked to stop
-  pub stop : is_ended worker.isolate.state ≡ true → is_asked i history ≡ true
+  -- it ends by the host only where it was asked to stop
+  pub stop : worker.isolate.state ≡ ended Host → is_asked i history ≡ true
   -- nothing was received before its cause
   pub caused : AreCaused i worker.journal [] history
   -- the tasks that wait name nothing but what was received from it

@@ -1,3 +1,4 @@
-pub mod ActLemmas
+pub mod Growing
+pub mod DoneLemmas
 pub mod LifeLemmas
 pub mod CellLemmas

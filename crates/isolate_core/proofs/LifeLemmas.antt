@@ -1,54 +1,46 @@
--- What a task does to the state of a cell is one thing.
-use Rattle.std.proofs.Common.{◌≡◌, List, refl, subst, sym, ap, ◌∙◌}
+-- What a task does to the state of a cell.
+use Rattle.std.proofs.Common.{◌≡◌, Some, Result, Ok, Err, refl, subst, sym, ap}
+use Rattle.std.specs.Prelude.{IfOk}
+use Rattle.ivm_text.specs.declared.fault.NoMemory.{NoMemory}
 use Rattle.task_history.specs.declared.task.Task.{Task}
 use Rattle.task_history.specs.declared.outcome.By.{By}
-use Rattle.task_history.specs.declared.outcome.Outcome.{Outcome}
 use Rattle.task_history.specs.declared.outcome.Outcome.TheVariants.{Disposed}
 use Rattle.task_history.specs.declared.record.Entry.{Entry}
-use Rattle.isolate_meaning.specs.State.{Context, State, live, ended}
+use Rattle.isolate_meaning.specs.State.{State, live, ended, IsClosed}
+use Rattle.isolate_meaning.specs.Tasks.{Done}
 use Rattle.isolate_meaning.specs.Does.{Acts, DoesTo, acts, refuses, entry_of}
+use Rattle.isolate_core.specs.declared.contents.Contents.{Contents as Held}
 use Rattle.isolate_core.specs.declared.life.Life.{Life}
 use Rattle.isolate_core.specs.declared.life.Life.TheVariants.{Live, Ended}
-use Rattle.isolate_core.specs.Only.{IsOnlyAct}
+use Rattle.isolate_core.specs.Contents.{contents_of}
 use Rattle.isolate_core.specs.Life.{state_of, CarriesOut}
 
-only_state : (task : Task) (old new : List Context) (out : Outcome) → IsOnlyAct task.kind old new out
-    → (others : State) (other : Entry) → DoesTo task (live old) others other → others ≡ live new
-only_state task old new out only others other (acts {new = after} {out = told} deed) = ap live (only.contexts after told deed)
-
-only_entry : (task : Task) (old new : List Context) (out : Outcome) → IsOnlyAct task.kind old new out
-    → (others : State) (other : Entry) → DoesTo task (live old) others other → other ≡ entry_of task out
-only_entry task old new out only others other (acts {new = after} {out = told} deed) = ap (entry_of task) (only.outcomes after told deed)
-
-only_refused : (task : Task) (by : By) (others : State) (other : Entry) → DoesTo task (ended by) others other → others ≡ ended by
-only_refused task by others other refuses = refl
-
-only_refusal : (task : Task) (by : By) (others : State) (other : Entry) → DoesTo task (ended by) others other → other ≡ entry_of task (Disposed by)
-only_refusal task by others other refuses = refl
-
-pub carried_live : (task : Task) (life : Life) (old new : List Context) (out : Outcome) (entry : Entry) → life ≡ Live old
-    → Acts task.kind old new out → IsOnlyAct task.kind old new out → entry ≡ entry_of task out → CarriesOut task life (Live new) entry
-carried_live task life old new out entry is deed only noted = record {
-  before = live old;
-  after = live new;
+live_carried : (task : Task) (life new : Life) (held : Held) (done : Done) (entry : Entry) → life ≡ Live held
+    → Acts task.budget task.kind (contents_of held) done → IsClosed done.state → state_of new ≡ Some done.state
+    → entry ≡ entry_of task done.out done.ticks done.cells → CarriesOut task life new entry
+live_carried task life new held done entry is does closed now noted = record {
+  before = live (contents_of held);
+  after = done.state;
   was = ap state_of is;
-  now = refl;
-  does = subst (DoesTo task (live old) (live new)) (sym noted) (acts deed);
-  only = record {
-    states = λ others other does. only_state task old new out only others other does;
-    entries = λ others other does. only_entry task old new out only others other does ∙ sym noted;
-  };
+  now = now;
+  does = subst (DoesTo task (live (contents_of held)) done.state) (sym noted) (acts does);
+  closed = closed;
 }
 
-pub carried_ended : (task : Task) (life : Life) (by : By) (entry : Entry) → life ≡ Ended by → entry ≡ entry_of task (Disposed by) → CarriesOut task life (Ended by) entry
+-- a live isolate does what the task asks for
+pub carried_live : (task : Task) (life : Life) (held : Held) (done : Done) (told : Result (Life × Entry) NoMemory) → life ≡ Live held
+    → Acts task.budget task.kind (contents_of held) done → IsClosed done.state → IfOk told (λ end. state_of end.0 ≡ Some done.state)
+    → IfOk told (λ end. end.1 ≡ entry_of task done.out done.ticks done.cells) → IfOk told (λ end. CarriesOut task life end.0 end.1)
+carried_live task life held done (Ok end) is does closed now noted = live_carried task life end.0 held done end.1 is does closed now noted
+carried_live task life held done (Err none) is does closed now noted = tt
+
+-- one that has ended refuses it
+pub carried_ended : (task : Task) (life : Life) (by : By) (entry : Entry) → life ≡ Ended by → entry ≡ entry_of task (Disposed by) 0 0 → CarriesOut task life (Ended by) entry
 carried_ended task life by entry is noted = record {
   before = ended by;
   after = ended by;
   was = ap state_of is;
   now = refl;
   does = subst (DoesTo task (ended by) (ended by)) (sym noted) refuses;
-  only = record {
-    states = λ others other does. only_refused task by others other does;
-    entries = λ others other does. only_refusal task by others other does ∙ sym noted;
-  };
+  closed = tt;
 }

@@ -9,11 +9,12 @@ pub record Written : Type 0 where
   pub entries : List Entry
   pub is_open : Bool
 
--- there are fewer than 2^32 entries, and as long as the stop can be written, its entry and a place for it are there
+-- there are fewer than 2^32 entries, and as long as the stop can be written, its entry, but for the cells, and a place
+-- for it are there
 abbrev pub IsReady : ℕ → ℕ → Option Entry → Type 0
 IsReady length capacity None = length < 2 ^ 32
-IsReady length capacity (Some stop) = (length + 1 < 2 ^ 32) × (length < capacity) × (stop ≡ stop_entry)
+IsReady length capacity (Some stop) = (length + 1 < 2 ^ 32) × (length < capacity) × (stop ≡ stop_entry 0)
 
 -- with the stop at its end, if it can still be written
-abbrev pub closed : Written → Written
-closed written = if written.is_open then record { entries = written.entries ++ stop_entry ∷ []; is_open = false } else written
+abbrev pub closed : ℕ → Written → Written
+closed cells written = if written.is_open then record { entries = written.entries ++ stop_entry cells ∷ []; is_open = false } else written

@@ -1,185 +1,61 @@
-//! What one task does to the contexts of a live isolate.
-
-ghost use Rattle.std.specs.Prelude.{◌≡◌, ◌<◌, length, IfOk};
-ghost use Rattle.small_syntax.specs.Meaning.{property};
+//! What one task does to the contents of a live isolate.
+ghost use Rattle.std.specs.Prelude.{◌<◌, length, IfOk};
+ghost use Rattle.isolate_meaning.specs.State.{AreClosed, IsClosed};
 ghost use Rattle.isolate_meaning.specs.Fits.{IsSoundAct, IsSoundKind, NamesIn};
-ghost use Rattle.isolate_meaning.specs.Does.{Acts, ActsOn, Sets, EvaluatesIn, MakesContext, context_at, entry_of, error, outcome_of, primitive, root_of};
-ghost use Rattle.isolate_core.specs.Only.{IsOnlyAct, IsOnlyActOn, IsOnlyEvaluation};
+ghost use Rattle.isolate_meaning.specs.Does.{Acts, ActsOn};
+ghost use Rattle.isolate_core.specs.Contents.{contents_of};
+ghost use Rattle.isolate_core.specs.Done.{done_of};
 
-use crate::contexts::{Context, Contexts};
-use item_list::{CloneWhole, Items};
-use ivm_text::{Copy, CopyNode, ErrorKind, Leaf, NoMemory, Passed, Refusal, RefusalKind, Units};
-use small_eval::evaluate;
-use small_syntax::{Evaluation, Thrown};
+use crate::contents::Contents;
+use crate::contexts::make_context;
+use crate::done::Done;
+use crate::rows::{read_property, write_property};
+use crate::texts::run_text;
+use crate::values::passed_value;
+use ivm_text::NoMemory;
 use std::alloc::Global;
-use task_history::{Act, Entry, Out, Outcome, Task, TaskKind};
+use task_history::{Act, TaskKind};
 
-/// The entry of a task with this outcome: its one out is the reply.
-pub(crate) fn entry_of(alloc: Global, task: &Task, outcome: Outcome) -> Result<Entry, NoMemory>
-    ensures { IfOk result (λ entry. entry ≡ entry_of task.now outcome) }
-{
-    let reply = Out::Reply {
-        call: task.call,
-        outcome: outcome.clone_whole(alloc)?,
-    };
-    let mut outs = Items::new(alloc);
-    outs.push(reply)?;
-    Ok(Entry {
-        task: Some(task.clone_whole(alloc)?),
-        outcome,
-        ticks: 0,
-        cells: 0,
-        outs,
-    })
-}
-
-/// Does what a task of this kind does, and gives its outcome.
+/// Does what a task of this kind does, within so many ticks.
 pub(crate) fn act(
     alloc: Global,
-    contexts: &mut Contexts,
+    contents: Contents,
+    budget: u32,
     kind: &TaskKind,
-) -> Result<Outcome, NoMemory>
+) -> Result<Done, NoMemory>
+    requires closed { AreClosed (contents_of contents) }
     requires sound { IsSoundKind kind.now }
-    requires names { NamesIn contexts.old kind.now }
+    requires names { NamesIn (contents_of contents) kind.now }
 
-    ensures acts { IfOk result (λ outcome. Acts kind.now contexts.old contexts.new outcome) }
-    ensures only { IfOk result (λ outcome. IsOnlyAct kind.now contexts.old contexts.new outcome) }
+    ensures acts { IfOk result (λ done. Acts budget kind.now (contents_of contents) (done_of done)) }
+    ensures closed { IfOk result (λ done. IsClosed (done_of done).state) }
 {
     match kind {
-        TaskKind::Context => make_context(alloc, contexts),
+        TaskKind::Context => make_context(alloc, contents),
         TaskKind::Eval { context, text, .. } => {
-            evaluate_in(alloc, contexts, *context, text.as_slice())
+            run_text(alloc, contents, budget, *context, text.as_slice())
         }
-        TaskKind::Act { row, act } => act_on(alloc, contexts, *row, act),
+        TaskKind::Act { row, act } => act_on(alloc, contents, *row, act),
         TaskKind::Compile(_) | TaskKind::Run { .. } | TaskKind::Resume { .. } => unreachable!(),
     }
 }
 
-fn make_context(alloc: Global, contexts: &mut Contexts) -> Result<Outcome, NoMemory>
-    ensures { IfOk result (λ outcome. MakesContext contexts.old contexts.new outcome) }
-{
-    let number = contexts.len();
-    contexts.push(Context::new(alloc))?;
-    Ok(Outcome::Context {
-        context: number,
-        row: number,
-    })
-}
-
-fn evaluate_in(
-    alloc: Global,
-    contexts: &mut Contexts,
-    number: u32,
-    text: &[u8],
-) -> Result<Outcome, NoMemory>
-    requires { number < length contexts.old }
-    ensures evaluates { IfOk result (λ outcome. EvaluatesIn number text.now contexts.old contexts.new outcome) }
-    ensures only { IfOk result (λ outcome. IsOnlyEvaluation number text.now contexts.old contexts.new outcome) }
-{
-    let Context { mut names, global } = contexts.replace(number, Context::new(alloc));
-    let evaluation = evaluate(alloc, &mut names, &global, text)?;
-    contexts.set(number, Context { names, global });
-    let outcome = outcome_of(alloc, evaluation)?;
-    Ok(outcome)
-}
-
-/// Reads or writes a property of the global object that has this row.
-fn act_on(alloc: Global, contexts: &mut Contexts, row: u32, act: &Act) -> Result<Outcome, NoMemory>
+/// Reads or writes a property of the value of a row.
+#[tactic(auto, using(crate::proofs::Growing::passed_sound))]
+fn act_on(alloc: Global, contents: Contents, row: u32, act: &Act) -> Result<Done, NoMemory>
+    requires closed { AreClosed (contents_of contents) }
     requires sound { IsSoundAct act.now }
-    requires there { row < length contexts.old }
+    requires there { row < length contents.rows }
 
-    ensures acts { IfOk result (λ outcome. ActsOn row act.now contexts.old contexts.new outcome) }
-    ensures only { IfOk result (λ outcome. IsOnlyActOn row act.now contexts.old contexts.new outcome) }
+    ensures acts { IfOk result (λ done. ActsOn row act.now (contents_of contents) (done_of done)) }
+    ensures closed { IfOk result (λ done. IsClosed (done_of done).state) }
 {
     match act {
-        Act::Get(key, _) => {
-            let value = property(contexts, row, key).unwrap_or(Leaf::Undefined);
-            Ok(primitive(alloc, value))
-        }
-        Act::Set(key, value) => {
-            set_property(alloc, contexts, row, key, root_of(value))?;
-            Ok(Outcome::Done)
+        Act::Get(key, _) => read_property(alloc, contents, row, key),
+        Act::Set(key, passed) => {
+            let value = passed_value(passed);
+            write_property(alloc, contents, row, key, value)
         }
         Act::Apply(..) | Act::CopyOut => unreachable!(),
     }
-}
-
-fn property(contexts: &Contexts, row: u32, key: &Units) -> Option<Leaf>
-    requires { row < length contexts.now }
-    ensures { result ≡ property key.now ((context_at contexts.now row).global) }
-{
-    let context = &contexts.as_slice()[row as usize];
-    context.global.get(key)
-}
-
-fn set_property(
-    alloc: Global,
-    contexts: &mut Contexts,
-    row: u32,
-    key: &Units,
-    value: Leaf,
-) -> Result<(), NoMemory>
-    requires { row < length contexts.old }
-    ensures { IfOk result (λ _. Sets row key.now value contexts.old contexts.new Outcome.Done) }
-{
-    let key = key.clone_whole(alloc)?;
-    let Context { names, mut global } = contexts.replace(row, Context::new(alloc));
-    global.set(key, value)?;
-    contexts.set(row, Context { names, global });
-    Ok(())
-}
-
-/// The primitive that passes.
-fn root_of(value: &Passed) -> Leaf
-    ensures { result ≡ root_of value.now }
-{
-    match value {
-        Passed::Copy(copy) | Passed::External(copy) => copy.root,
-        Passed::Ref(_) | Passed::Deref(_) | Passed::Callback(_) => Leaf::Undefined,
-    }
-}
-
-fn outcome_of(alloc: Global, evaluation: Evaluation) -> Result<Outcome, NoMemory>
-    ensures { IfOk result (λ outcome. outcome ≡ outcome_of evaluation) }
-{
-    match evaluation {
-        Evaluation::Value(value) => Ok(primitive(alloc, value)),
-        Evaluation::Throw(Thrown::OutOfRange) => Ok(Outcome::Throw(error(
-            alloc,
-            ErrorKind::RangeError,
-            b"number out of range",
-        )?)),
-        Evaluation::Throw(Thrown::WrongKind) => Ok(Outcome::Throw(error(
-            alloc,
-            ErrorKind::TypeError,
-            b"wrong kind of operand",
-        )?)),
-        Evaluation::NotBuilt => Ok(Outcome::Syntax(Refusal {
-            kind: RefusalKind::Unexpected,
-            place: 0,
-            word: None,
-        })),
-    }
-}
-
-fn primitive(alloc: Global, root: Leaf) -> Outcome
-    ensures { result ≡ Outcome.Passed (Passed.Copy (primitive root)) }
-{
-    Outcome::Passed(Passed::Copy(Copy {
-        nodes: Items::new(alloc),
-        root,
-    }))
-}
-
-/// An error with an ASCII message, copied out.
-fn error(alloc: Global, kind: ErrorKind, message: &[u8]) -> Result<Copy, NoMemory>
-    ensures { IfOk result (λ copy. copy ≡ error kind message.now) }
-{
-    let message = Units::from_latin1(alloc, message)?;
-    let mut nodes = Items::new(alloc);
-    nodes.push(CopyNode::Error(kind, message))?;
-    Ok(Copy {
-        nodes,
-        root: Leaf::Node(0),
-    })
 }

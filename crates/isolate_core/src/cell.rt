@@ -1,13 +1,16 @@
 //! A cell: an isolate's state and the journal that gives it again.
 
-ghost use Rattle.std.specs.Prelude.{◌≡◌, None, IfOk, IsErr, OnOk, OnErr};
-ghost use Rattle.isolate_meaning.specs.Replay.{fresh_cell, has_ended, stopped, void, IsKept, MayPerform, Performs};
+ghost use Rattle.std.specs.Prelude.{◌≡◌, None, IfOk, IsErr, IsTrue, OnOk, OnErr};
+ghost use Rattle.isolate_meaning.specs.Replay.{charged, fresh_cell, has_ended, stopped, void, IsKept, MayPerform, Performs};
 ghost use Rattle.isolate_core.specs.Only.{IsOnlyPerformance};
 
+use crate::contents::Contents;
 use crate::ledger::Ledger;
 use crate::life::{Life, carry_out};
-use item_list::Items;
+#[cfg(test)]
+use crate::tests::fits;
 use ivm_text::NoMemory;
+use script_texts::texts_are_read_once;
 use std::alloc::Global;
 use std::marker::Model;
 use std::mem;
@@ -37,8 +40,7 @@ impl Model for Cell {
 
 impl Cell {
     /// A fresh cell: live, without contexts, with an empty journal, and not void. All that a stop needs is
-    /// reserved. `limit` is in cells; none is charged until scripts have a heap.
-    /// It is refused for want of memory alone.
+    /// reserved. `limit` is the most cells that may be charged. It is refused for want of memory alone.
     pub fn new(alloc: Global, isolate: u32, limit: u32) -> Result<Cell, NoMemory>
         ensures { IfOk result (λ cell. cell ≡ fresh_cell isolate limit) }
     {
@@ -46,14 +48,15 @@ impl Cell {
             isolate,
             limit,
             ledger: Ledger::new(alloc)?,
-            life: Life::Live(Items::new(alloc)),
+            life: Life::Live(Contents::new(alloc, limit)),
             alloc,
         })
     }
 
-    /// Performs one task and appends its one entry: on a live isolate what the task asks for, and on one that
-    /// has ended `Disposed` with the cause of its end. After `NoMemory` the cell is void: its journal stays,
-    /// its state is gone, and each later task is refused so.
+    /// Performs one task and appends its one entry, with the ticks that it took and the cells that are charged after it:
+    /// on a live isolate what the task asks for, and on one that has ended `Disposed` with the cause of its end. A task
+    /// whose next charge would pass the limit is told so and ends the isolate, whose items are gone. After `NoMemory` the
+    /// cell is void: its journal stays, its state is gone, and each later task is refused so.
     pub fn perform(&mut self, task: &Task) -> Result<(), NoMemory>
         requires { MayPerform self.old task.now }
 
@@ -63,6 +66,8 @@ impl Cell {
 
         ensures void { self.old.state ≡ None → IsErr result }
     {
+        // So what the task does is one thing.
+        texts_are_read_once();
         let life = mem::replace(&mut self.life, Life::Void);
         let (life, entry) = carry_out(self.alloc, life, task)?;
         self.ledger.push(entry)?;
@@ -70,13 +75,14 @@ impl Cell {
         Ok(())
     }
 
-    /// Stops a live isolate for the host (isolated-vm: `isolate.dispose`): it has ended, with one more entry. An
-    /// isolate that has ended, and a void cell, stay as they are. It takes no memory.
+    /// Stops a live isolate for the host (isolated-vm: `isolate.dispose`): it has ended, with one more entry that tells
+    /// the cells that were charged. An isolate that has ended, and a void cell, stay as they are. It takes no memory.
     pub fn dispose(&mut self)
         ensures { self.new ≡ stopped self.old }
     {
-        if let Life::Live(_) = &self.life {
-            self.ledger.close();
+        if let Life::Live(contents) = &self.life {
+            let cells = contents.heap.charged();
+            self.ledger.close(cells);
             self.life = Life::Ended(By::Host);
         }
     }
@@ -96,11 +102,14 @@ impl Cell {
         matches!(self.life, Life::Ended(_))
     }
 
-    /// The cells that are charged: none until scripts have a heap.
+    /// The cells that are charged. None are where the isolate has ended or the cell is void.
     pub fn charged(&self) -> u32
-        ensures { result ≡ 0 }
+        ensures { result ≡ charged self.now.state }
     {
-        0
+        match &self.life {
+            Life::Live(contents) => contents.heap.charged(),
+            Life::Ended(_) | Life::Void => 0,
+        }
     }
 
     /// The journal of a cell that is done with.
@@ -110,5 +119,15 @@ impl Cell {
     {
         let Cell { ledger, .. } = self;
         ledger.into_journal()
+    }
+}
+
+#[cfg(test)]
+impl Cell {
+    /// Whether a task may be performed, which makes a context or evaluates a text for its value.
+    pub(crate) fn may_perform(&self, task: &Task) -> bool
+        ensures { IsTrue result → MayPerform self.now task.now }
+    {
+        fits(&self.life, task)
     }
 }

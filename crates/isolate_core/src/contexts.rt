@@ -1,18 +1,28 @@
-//! The contexts of a live isolate.
+//! The contexts of a live isolate, and how one is made.
+ghost use Rattle.std.specs.Prelude.{◌≡◌, [], None, IfErr, IfOk};
+ghost use Rattle.charged_heap.specs.Closed.{IsClosed as IsClosedStore, IsSoundValue};
+ghost use Rattle.charged_heap.specs.Growth.{Grows};
+ghost use Rattle.charged_heap.specs.Store.{IsAt, IsPlain, IsScope};
+ghost use Rattle.script_scopes.specs.Ends.{IsSoundFail, Meets, item_made};
+ghost use Rattle.isolate_meaning.specs.State.{AreClosed, IsClosed, IsClosedContext, IsRow};
+ghost use Rattle.isolate_meaning.specs.Tasks.{context_items, context_made, with_context};
+ghost use Rattle.isolate_core.specs.Contents.{contents_of};
+ghost use Rattle.isolate_core.specs.Done.{done_of};
 
-ghost use Rattle.std.specs.Prelude.{◌≡◌};
-ghost use Rattle.isolate_meaning.specs.Does.{empty_context};
-
-use item_list::Items;
-use small_eval::{Names, Properties};
+use crate::contents::Contents;
+use crate::done::{Done, refused};
+use charged_heap::{Bindings, Fail, Heap, Item, Names, Props, Value};
+use ivm_text::NoMemory;
 use std::alloc::Global;
 use std::marker::Model;
+use task_history::Outcome;
 
-/// One context (isolated-vm: `Context`): the names that its texts declared, and its global object.
+/// One context (isolated-vm: `Context`), by numbers of items: the scope that is the record of its names, and its
+/// global object.
 #[derive(Drop)]
-pub struct Context {
-    pub names: Names,
-    pub global: Properties,
+pub(crate) struct Context {
+    names: u32,
+    global: u32,
 }
 
 impl Model for Context {
@@ -23,17 +33,131 @@ impl Model for Context {
     ghost view = { λ c. record { names = c.names; global = c.global } };
 }
 
-/// The contexts of an isolate, in the order in which they were made.
-pub type Contexts = Items<Context>;
-
 impl Context {
-    /// A context without names and properties. Asks for no memory.
-    pub fn new(alloc: Global) -> Context
-        ensures { result ≡ empty_context }
+    pub(crate) fn names(&self) -> u32
+        ensures { result ≡ self.now.names }
     {
-        Context {
-            names: Names::new(alloc),
-            global: Properties::new(alloc),
-        }
+        self.names
+    }
+
+    pub(crate) fn global(&self) -> u32
+        ensures { result ≡ self.now.global }
+    {
+        self.global
+    }
+}
+
+/// The items of a context, and the row of its global object.
+#[derive(Drop)]
+struct MadeContext {
+    context: Context,
+    row: u32,
+}
+
+impl Model for MadeContext {
+    ghost use Rattle.isolate_meaning.specs.Tasks.{MadeContext as MadeMeaning};
+
+    ghost Value = { MadeMeaning };
+
+    ghost view = { λ m. record { context = m.context; row = m.row } };
+}
+
+fn make_object(alloc: Global, heap: &mut Heap) -> Result<u32, Fail>
+    ensures meets { Meets result heap.new (item_made (Item.Plain []) heap.old) }
+
+    ensures grown { Grows heap.old heap.new }
+    ensures closed { IsClosedStore heap.old → IsClosedStore heap.new }
+    ensures object { IfOk result (IsAt IsPlain heap.new) }
+    ensures thrown { IfErr result (IsSoundFail heap.new) }
+{
+    let properties = Props::new(alloc).map_err(|_| Fail::NoMemory)?;
+    let number = heap.add(Item::Plain(properties))?;
+    Ok(number)
+}
+
+fn make_names(alloc: Global, heap: &mut Heap) -> Result<u32, Fail>
+    ensures meets { Meets result heap.new (item_made (Item.Scope None [] []) heap.old) }
+
+    ensures grown { Grows heap.old heap.new }
+    ensures closed { IsClosedStore heap.old → IsClosedStore heap.new }
+    ensures names { IfOk result (IsAt IsScope heap.new) }
+    ensures thrown { IfErr result (IsSoundFail heap.new) }
+{
+    let number = heap.add(Item::Scope {
+        parent: None,
+        bindings: Bindings::new(alloc),
+        functions: Names::new(alloc),
+    })?;
+    Ok(number)
+}
+
+fn make_row(heap: &mut Heap, value: Value) -> Result<u32, Fail>
+    requires { IsSoundValue heap.old value }
+
+    ensures meets { Meets result heap.new (item_made (Item.Row value) heap.old) }
+
+    ensures grown { Grows heap.old heap.new }
+    ensures closed { IsClosedStore heap.old → IsClosedStore heap.new }
+    ensures row { IfOk result (IsAt IsRow heap.new) }
+    ensures thrown { IfErr result (IsSoundFail heap.new) }
+{
+    let number = heap.add(Item::Row(value))?;
+    Ok(number)
+}
+
+/// Makes an empty object, a scope without names, and a row of the object, one after the other.
+#[tactic(auto, using(crate::proofs::Growing::growing))]
+fn context_items(alloc: Global, heap: &mut Heap) -> Result<MadeContext, Fail>
+    requires { IsClosedStore heap.old }
+
+    ensures meets { Meets result heap.new (context_items heap.old) }
+
+    ensures grown { Grows heap.old heap.new }
+    ensures closed { IsClosedStore heap.new }
+    ensures context { IfOk result (λ made. IsClosedContext heap.new made.context) }
+    ensures row { IfOk result (λ made. IsAt IsRow heap.new made.row) }
+    ensures thrown { IfErr result (IsSoundFail heap.new) }
+{
+    let global = make_object(alloc, heap)?;
+    let names = make_names(alloc, heap)?;
+    let row = make_row(heap, Value::Item(global))?;
+    let context = Context { names, global };
+    Ok(MadeContext { context, row })
+}
+
+/// Puts a context that was made, and the row of its global object, behind the others.
+#[tactic(auto, using(crate::proofs::Growing::contents))]
+fn add_context(mut contents: Contents, context: Context, row: u32) -> Result<Contents, NoMemory>
+    requires closed { AreClosed (contents_of contents) }
+    requires context { IsClosedContext contents.heap context }
+    requires row { IsAt IsRow contents.heap row }
+
+    ensures added { IfOk result (λ more. contents_of more ≡ with_context (contents_of contents) (record { context = context; row = row }) contents.heap) }
+    ensures closed { IfOk result (λ more. AreClosed (contents_of more)) }
+{
+    contents.contexts.push(context)?;
+    contents.rows.push(row)?;
+    Ok(contents)
+}
+
+/// Makes a context (isolated-vm: `isolate.createContext`), and tells its number and that of its global object's row.
+#[tactic(auto, unfolding(isolate_meaning::specs::Tasks::context_made), using(crate::proofs::Growing::contents, crate::proofs::DoneLemmas::dones))]
+pub(crate) fn make_context(alloc: Global, mut contents: Contents) -> Result<Done, NoMemory>
+    requires { AreClosed (contents_of contents) }
+
+    ensures done { IfOk result (λ done. done_of done ≡ context_made (contents_of contents)) }
+    ensures closed { IfOk result (λ done. IsClosed (done_of done).state) }
+{
+    let outcome = Outcome::Context {
+        context: contents.contexts.len(),
+        row: contents.rows.len(),
+    };
+    match context_items(alloc, &mut contents.heap) {
+        Ok(MadeContext { context, row }) => Ok(Done::Lives {
+            contents: add_context(contents, context, row)?,
+            outcome,
+            ticks: 0,
+        }),
+        Err(fail) => refused(alloc, contents, fail),
     }
 }

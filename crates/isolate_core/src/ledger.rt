@@ -57,11 +57,12 @@ impl Ledger {
         Ok(())
     }
 
-    /// Writes the stop, if it isn't written yet. It takes no memory.
-    pub(crate) fn close(&mut self)
-        ensures { self.new ≡ closed self.old }
+    /// Writes the stop with the cells that are charged, if it isn't written yet. It takes no memory.
+    pub(crate) fn close(&mut self, cells: u32)
+        ensures { self.new ≡ closed cells self.old }
     {
-        if let Some(stop) = self.stop.take() {
+        if let Some(mut stop) = self.stop.take() {
+            stop.cells = cells;
             let _ = self.entries.push(stop);
         }
     }
@@ -82,8 +83,9 @@ impl Ledger {
     }
 }
 
+/// The entry of a stop, without its cells.
 fn stop_entry(alloc: Global) -> Result<Entry, NoMemory>
-    ensures { IfOk result (λ entry. entry ≡ stop_entry) }
+    ensures { IfOk result (λ entry. entry ≡ stop_entry 0) }
 {
     let mut outs = Items::new(alloc);
     outs.push(Out::Reply {

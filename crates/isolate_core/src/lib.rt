@@ -2,17 +2,24 @@
 //!
 //! Contracts see a `Cell` as its number, its limit, its journal and its state (`Kept` in `specs/Replay.antt` of
 //! `isolate_meaning`).
-//! Rely on: one exact entry per task; the journal, carried out again, gives the state; a stop takes no memory.
-//! Over `isolate_meaning`, `small_eval` and `task_history`; under the host.
-//! Begin with `specs/Does.antt` of `isolate_meaning`, then `src/cell.rt`.
+//! Rely on: one exact entry per task, with its ticks and cells; the journal, carried out again, gives the state; a stop
+//! takes no memory.
+//! Over `isolate_meaning`, `script_eval` and `script_texts`; under the host.
+//! Begin with `specs/Tasks.antt` and `specs/Does.antt` of `isolate_meaning`, then `src/cell.rt`.
 #![tactic(auto)]
 
 mod act;
 mod cell;
+mod contents;
 mod contexts;
+mod done;
+mod entry;
 mod ledger;
 mod life;
+mod rows;
 #[cfg(test)]
 mod tests;
+mod texts;
+mod values;
 
 pub use cell::Cell;

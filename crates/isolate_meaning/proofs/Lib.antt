@@ -3,4 +3,4 @@ pub mod Replays
 pub mod Replies
 pub mod Ends
 pub mod Told
-pub mod Closed
+pub mod Only

@@ -4,7 +4,7 @@ use Rattle.std.specs.Prelude.{◌≡◌, ℕ, List, [], ◌∷◌, ◌++◌, Boo
 use Rattle.task_history.specs.declared.task.Task.{Task}
 use Rattle.task_history.specs.declared.outcome.By.TheVariants.{Host}
 use Rattle.task_history.specs.declared.record.Entry.{Entry}
-use Rattle.isolate_meaning.specs.State.{State, live, ended, Isolate, fresh, is_ended, IsClosed}
+use Rattle.isolate_meaning.specs.State.{State, live, ended, Isolate, empty, fresh, cells_of, charge_in, is_ended, IsClosed}
 use Rattle.isolate_meaning.specs.Fits.{Fits}
 use Rattle.isolate_meaning.specs.Does.{Does, HostStop, stop_entry}
 
@@ -37,7 +37,7 @@ pub record Kept : Type 0 where
   pub state : Option State
 
 abbrev pub fresh_cell : ℕ → ℕ → Kept
-fresh_cell number limit = record { number = number; limit = limit; journal = []; state = Some (live []) }
+fresh_cell number limit = record { number = number; limit = limit; journal = []; state = Some (live (empty limit)) }
 
 -- the journal is lost to no refusal, and the rest is gone
 abbrev pub void : Kept → Kept
@@ -75,7 +75,7 @@ pub record Performs (task : Task) (old new : Kept) : Type 0 where
 abbrev pub stopped_at : Kept → Option State → Kept
 stopped_at kept None = kept
 stopped_at kept (Some (ended by)) = kept
-stopped_at kept (Some (live contexts)) = record kept { journal = kept.journal ++ stop_entry ∷ []; state = Some (ended Host) }
+stopped_at kept (Some (live contents)) = record kept { journal = kept.journal ++ stop_entry (cells_of contents) ∷ []; state = Some (ended Host) }
 
 abbrev pub stopped : Kept → Kept
 stopped kept = stopped_at kept kept.state
@@ -84,3 +84,8 @@ stopped kept = stopped_at kept kept.state
 abbrev pub has_ended : Option State → Bool
 has_ended None = false
 has_ended (Some state) = is_ended state
+
+-- the cells that are charged in it; none where it has ended or is void
+abbrev pub charged : Option State → ℕ
+charged None = 0
+charged (Some state) = charge_in state

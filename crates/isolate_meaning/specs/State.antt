@@ -1,20 +1,30 @@
 -- The state of an isolate, without lock, queue or thread.
--- This project's own, after isolated-vm's isolate and context; docs/MAP.md, "One isolate".
-use Rattle.std.specs.Prelude.{ℕ, List, [], Bool, true, false, Option, None, Some}
-use Rattle.std.specs.List.{AllByRecursion}
-use Rattle.ivm_text.specs.declared.copies.Leaf.{Leaf}
-use Rattle.ivm_text.specs.declared.copies.Leaf.TheVariants.{Undefined, Null, Bool as Boolean, Num, Node}
+-- This project's own, after isolated-vm's isolate, context and script; docs/MAP.md, "One isolate".
+use Rattle.std.specs.Prelude.{ℕ, List, [], Bool, true, false}
+use Rattle.std.specs.List.{All}
+use Rattle.charged_heap.specs.Closed.{IsClosed as IsClosedStore}
+use Rattle.charged_heap.specs.Price.{charge_of}
+use Rattle.charged_heap.specs.Store.{Store, IsAt, IsPlain, IsScope}
+use Rattle.charged_heap.specs.declared.item.ItemKind.{ItemKind}
+use Rattle.charged_heap.specs.declared.item.ItemKind.TheVariants as kind
+use Rattle.script_meaning.specs.Places.{ScriptList}
 use Rattle.task_history.specs.declared.outcome.By.{By}
-use Rattle.small_syntax.specs.Meaning.{Names, Properties}
 
--- a context: the names that its texts declared, and the properties of its global object
+-- a context, by numbers of items: the scope that is the record of its names, and its global object
 pub record Context : Type 0 where
-  pub names : Names
-  pub global : Properties
+  pub names : ℕ
+  pub global : ℕ
 
--- a live isolate has contexts; context n's global object has row n
+-- what a live isolate has: its items, its contexts, the scripts that it was charged for, and its rows, each by the
+-- number of its item
+pub record Contents : Type 0 where
+  pub store : Store
+  pub contexts : List Context
+  pub scripts : ScriptList
+  pub rows : List ℕ
+
 pub data State : Type 0 where
-  live : List Context → State
+  live : Contents → State
   ended : By → State
 
 -- an isolate: its number, its limit in cells, and its state
@@ -23,33 +33,44 @@ pub record Isolate : Type 0 where
   pub limit : ℕ
   pub state : State
 
+-- nothing, with this limit in cells
+abbrev pub empty : ℕ → Contents
+empty limit = record { store = record { items = []; limit = limit }; contexts = []; scripts = []; rows = [] }
+
 -- an isolate that has carried out nothing
 abbrev pub fresh : ℕ → ℕ → Isolate
-fresh number limit = record { number = number; limit = limit; state = live [] }
+fresh number limit = record { number = number; limit = limit; state = live (empty limit) }
 
 abbrev pub is_ended : State → Bool
-is_ended (live contexts) = false
+is_ended (live contents) = false
 is_ended (ended by) = true
+
+-- the cells that are charged
+abbrev pub cells_of : Contents → ℕ
+cells_of contents = charge_of contents.store.items
+
+-- those of a state; one that has ended has no items
+abbrev pub charge_in : State → ℕ
+charge_in (live contents) = cells_of contents
+charge_in (ended by) = 0
 
 -- ---- closed
 
--- the value names no item, since there is none
-abbrev pub IsPlain : Leaf → Type 0
-IsPlain Undefined = Unit {0}
-IsPlain Null = Unit {0}
-IsPlain (Boolean b) = Unit {0}
-IsPlain (Num n) = Unit {0}
-IsPlain (Node n) = ⊥
+abbrev pub IsRow : ItemKind → Type 0
+IsRow kind.Row = Unit {0}
+IsRow _ = ⊥
 
-abbrev pub IsPlainIfThere : Option Leaf → Type 0
-IsPlainIfThere None = Unit {0}
-IsPlainIfThere (Some value) = IsPlain value
+-- a context's names are a scope and its global object is a plain one
+pub record IsClosedContext (s : Store) (context : Context) : Type 0 where
+  pub names : IsAt IsScope s context.names
+  pub global : IsAt IsPlain s context.global
 
-pub record IsClosedContext (context : Context) : Type 0 where
-  pub names : AllByRecursion (λ entry. IsPlainIfThere entry.1) context.names
-  pub global : AllByRecursion (λ property. IsPlain property.1) context.global
+-- every number in these contents names an item of the kind that its place asks for
+pub record AreClosed (contents : Contents) : Type 0 where
+  pub store : IsClosedStore contents.store
+  pub contexts : All (IsClosedContext contents.store) contents.contexts
+  pub rows : All (IsAt IsRow contents.store) contents.rows
 
--- every value in the state names what is there
 abbrev pub IsClosed : State → Type 0
-IsClosed (live contexts) = AllByRecursion IsClosedContext contexts
+IsClosed (live contents) = AreClosed contents
 IsClosed (ended by) = Unit {0}

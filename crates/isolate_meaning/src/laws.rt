@@ -5,17 +5,20 @@ ghost use Rattle.task_history.specs.Lists.{outs};
 ghost use Rattle.task_history.specs.declared.task.Task.{Task};
 ghost use Rattle.task_history.specs.declared.task.TaskKind.TheVariants.{Context};
 ghost use Rattle.task_history.specs.declared.record.Entry.{Entry};
-ghost use Rattle.isolate_meaning.specs.State.{Isolate, fresh, IsClosed};
+ghost use Rattle.isolate_meaning.specs.State.{Isolate, fresh};
 ghost use Rattle.isolate_meaning.specs.Does.{Does};
 ghost use Rattle.isolate_meaning.specs.Replay.{Replay};
-ghost use Rattle.isolate_meaning.specs.Laws.{AnswersEachOnce, EndsByDisposal, IsContextReply, IsRefusedWhereEnded, IsStopped, KnownFits, TellsWhatIsThere};
+ghost use Rattle.isolate_meaning.specs.Laws.{AnswersEachOnce, EndsByDisposal, IsContextReply, IsOneDeed, IsOneEnd, IsRefusedWhereEnded, HasCause, KnownFits, TellsWhatIsThere};
+
+use script_texts::texts_are_read_once;
 
 /// Each entry of a journal sends one reply, in order, and the reply names the call of the entry's task.
 pub fn each_task_is_answered_once()
     ensures { (first last : Isolate) (journal : List Entry) → Replay first journal last → AnswersEachOnce journal }
 {}
 
-/// A live isolate tells no task as a disposal. One that has ended refuses each task with the cause of its end.
+/// A task ends a live isolate exactly where it passes the limit in cells. One that has ended refuses each task with the
+/// cause of its end.
 pub fn ended_isolates_refuse()
     ensures { (task : Task) (old new : Isolate) (entry : Entry) → Does task old new entry → IsRefusedWhereEnded task old.state new.state entry }
 {}
@@ -25,17 +28,18 @@ pub fn disposals_end()
     ensures { (i limit : ℕ) (journal : List Entry) (last : Isolate) → Replay (fresh i limit) journal last → EndsByDisposal journal last.state }
 {}
 
-/// An isolate that has ended was stopped by the host: nothing else ends one yet.
-pub fn the_host_alone_ends()
-    ensures { (i limit : ℕ) (journal : List Entry) (last : Isolate) → Replay (fresh i limit) journal last → IsStopped journal last.state }
+/// Why an isolate has ended stands in its journal: a stop by the host, or a task that passed its limit in cells.
+pub fn ends_have_causes()
+    ensures { (i limit : ℕ) (journal : List Entry) (last : Isolate) → Replay (fresh i limit) journal last → HasCause journal last.state }
 {}
 
-/// A context that is made is told with the number of the contexts before it, unless the isolate has ended.
+/// A context that is made is told with the number of the contexts before it and that of its row, unless the isolate has
+/// ended or has no cells left for it.
 pub fn new_contexts_are_numbered()
     ensures { (task : Task) (old new : Isolate) (entry : Entry) → Does task old new entry → task.kind ≡ Context → IsContextReply old.state entry.outcome }
 {}
 
-/// A context that a journal tells is there as long as its isolate lives.
+/// A context that a journal tells is there as long as its isolate lives, and so is its row.
 pub fn told_contexts_are_there()
     ensures { (first last : Isolate) (journal : List Entry) → Replay first journal last → TellsWhatIsThere (outs journal) last.state }
 {}
@@ -45,7 +49,16 @@ pub fn known_tasks_fit()
     ensures { (first last : Isolate) (journal : List Entry) → Replay first journal last → KnownFits journal last.state }
 {}
 
-/// Each value in an isolate that a journal gives again names what is there.
-pub fn states_are_closed()
-    ensures { (i limit : ℕ) (journal : List Entry) (last : Isolate) → Replay (fresh i limit) journal last → IsClosed last.state }
-{}
+/// A task turns an isolate into one other and leaves one entry.
+pub fn tasks_do_one_thing()
+    ensures { (task : Task) (old new : Isolate) (entry : Entry) → Does task old new entry → IsOneDeed task old new entry }
+{
+    texts_are_read_once();
+}
+
+/// A journal that is carried out again has one end.
+pub fn journals_have_one_end()
+    ensures { (first last : Isolate) (journal : List Entry) → Replay first journal last → IsOneEnd first journal last }
+{
+    texts_are_read_once();
+}

@@ -1,0 +1,33 @@
+//! The entry that a task leaves.
+ghost use Rattle.std.specs.Prelude.{◌≡◌, IfOk};
+ghost use Rattle.isolate_meaning.specs.Does.{entry_of};
+
+use item_list::{CloneWhole, Items};
+use ivm_text::NoMemory;
+use std::alloc::Global;
+use task_history::{Entry, Out, Outcome, Task};
+
+/// The entry of a task with this outcome, its ticks and the cells that are charged: its one out is the reply.
+pub(crate) fn entry_of(
+    alloc: Global,
+    task: &Task,
+    outcome: Outcome,
+    ticks: u32,
+    cells: u32,
+) -> Result<Entry, NoMemory>
+    ensures { IfOk result (λ entry. entry ≡ entry_of task.now outcome ticks cells) }
+{
+    let reply = Out::Reply {
+        call: task.call,
+        outcome: outcome.clone_whole(alloc)?,
+    };
+    let mut outs = Items::new(alloc);
+    outs.push(reply)?;
+    Ok(Entry {
+        task: Some(task.clone_whole(alloc)?),
+        outcome,
+        ticks,
+        cells,
+        outs,
+    })
+}

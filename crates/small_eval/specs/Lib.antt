@@ -1,4 +1,0 @@
-pub mod Words
-pub mod Outcome
-pub mod Reads
-pub mod Steps

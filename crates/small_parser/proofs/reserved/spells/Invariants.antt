@@ -1,8 +1,0 @@
-use Rattle.std.proofs.Common.{◌≡◌, length, take}
-use Rattle.small_parser.proofs.reserved.spells.Given as goal
-
-abbrev pub invariant-loop-place : goal.invariant-loop-place
-invariant-loop-place l = record {
-  long : length l.word ≡ length l.bytes;
-  same : take l.place l.bytes ≡ take l.place l.word;
-}
