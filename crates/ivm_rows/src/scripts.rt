@@ -17,11 +17,18 @@ fn ample_memory_is_enough(rt: HostRuntime) -> Result<(), Fail> {
     // for each of the two calls a post, a receipt and a settlement
     assert_eq!(rt; told.kept.host.len(), 6);
     assert_eq!(rt; told.kept.isolates.len(), 1);
-    let entries = match told.kept.isolates.get(0) {
-        Some(journal) => journal.len(),
-        None => 0,
+    let [journal] = told.kept.isolates.as_slice() else {
+        assert!(rt; false, "one journal");
+        return Ok(());
     };
-    assert_eq!(rt; entries, 2);
+    let [context, text] = journal.as_slice() else {
+        assert!(rt; false, "two entries");
+        return Ok(());
+    };
+    // an object, a scope and a row
+    assert_eq!(rt; (context.ticks, context.cells), (0, 8));
+    // the script, two statements and four expressions; the script and one binding
+    assert_eq!(rt; (text.ticks, text.cells), (7, 13));
     Ok(())
 }
 
@@ -44,12 +51,12 @@ static REPORTS: [(&str, &str); 16] = [
     ),
     (
         "isolate a\nisolate b\ncontext c a\ncontext d b\neval x c : let n = 1; n\neval y d : n\n",
-        "c: context\nd: context\nx: value 1\ny: syntax Unexpected 0\n",
+        "c: context\nd: context\nx: value 1\ny: throw ReferenceError(\"n is not defined\")\n",
     ),
     // two contexts of one isolate share nothing
     (
         "isolate a\ncontext c a\ncontext d a\nset s c n : 1\neval x d : n\neval y c : n\n",
-        "c: context\nd: context\ns: done\nx: syntax Unexpected 0\ny: value 1\n",
+        "c: context\nd: context\ns: done\nx: throw ReferenceError(\"n is not defined\")\ny: value 1\n",
     ),
     // an isolate that was asked to stop refuses every later call, and no other isolate does
     (
@@ -75,8 +82,8 @@ static REPORTS: [(&str, &str); 16] = [
         "c: context\nx: value 42\ns: done\ng: value 8\n",
     ),
     (
-        "isolate a\ncontext c a\neval x c <<E\n1 +\n1\nE\n",
-        "c: context\nx: syntax Unexpected 0\n",
+        "isolate a\ncontext c a\neval x c <<E\n1 +\n1\nE\neval y c <<E\n1 +\n\nE\n",
+        "c: context\nx: value 2\ny: syntax Unexpected 4\n",
     ),
     (
         "isolate abcdefghijklmnopqrstuvwxyz012345\ncontext c abcdefghijklmnopqrstuvwxyz012345\n",
@@ -89,18 +96,18 @@ static REPORTS: [(&str, &str); 16] = [
 ];
 
 // What stands behind `isolate a` and `context c a`, and what is written behind `c: context`.
-static FRAGMENTS: [(&str, &str); 15] = [
+static FRAGMENTS: [(&str, &str); 19] = [
     (
         "eval x c : let n = 2;\neval y c : n * n",
         "x: value undefined\ny: value 4\n",
     ),
     (
         "eval x c : let n = 2; let n = 3;\neval y c : n\neval z c : let n = 4; n",
-        "x: syntax Unexpected 0\ny: syntax Unexpected 0\nz: value 4\n",
+        "x: syntax TwiceDeclared 15\ny: throw ReferenceError(\"n is not defined\")\nz: value 4\n",
     ),
     (
         "eval x c : let k = 1; let n = 9007199254740991 + k; let m = 1;\neval y c : k\neval z c : n\neval w c : let m = 2;",
-        "x: throw RangeError(\"number out of range\")\ny: value 1\nz: syntax Unexpected 0\nw: syntax Unexpected 0\n",
+        "x: throw RangeError(\"number out of range\")\ny: value 1\nz: throw ReferenceError(\"n is not initialised\")\nw: throw SyntaxError(\"m is already declared\")\n",
     ),
     (
         "eval x c :\neval y c : ",
@@ -139,15 +146,15 @@ static FRAGMENTS: [(&str, &str); 15] = [
         "set s c b : null\neval x c : b + (9007199254740991 + 1)\neval y c : (b * 1) + (9007199254740991 + 1)",
         "s: done\nx: throw RangeError(\"number out of range\")\ny: throw TypeError(\"wrong kind of operand\")\n",
     ),
-    // a name that the text itself declares isn't looked up in the global object
+    // a name that the text itself declares is in its dead zone, whatever the global object has
     (
         "set s c g : 5\neval x c : let a = g; let g = 1;",
-        "s: done\nx: syntax Unexpected 0\n",
+        "s: done\nx: throw ReferenceError(\"g is not initialised\")\n",
     ),
     // a name without a value hides a property
     (
         "eval x c : let n = 9007199254740991 + 1;\nset s c n : 3\neval y c : n\nget g c n",
-        "x: throw RangeError(\"number out of range\")\ns: done\ny: syntax Unexpected 0\ng: value 3\n",
+        "x: throw RangeError(\"number out of range\")\ns: done\ny: throw ReferenceError(\"n is not initialised\")\ng: value 3\n",
     ),
     // labels are names of calls; a wait for any of them goes on
     (
@@ -157,6 +164,26 @@ static FRAGMENTS: [(&str, &str); 15] = [
     (
         "context d a\neval x d : 1\neval y c : 2",
         "d: context\nx: value 1\ny: value 2\n",
+    ),
+    // a function is a property of the global object; it can't pass, and later texts call it
+    (
+        "eval x c : function twice(n) { return n + n; }\nget g c twice\neval y c : twice(21)\nset s c twice : 1\neval z c : twice",
+        "x: value undefined\ng: not transferable\ny: value 42\ns: done\nz: value 1\n",
+    ),
+    // a string passes, also one that a property holds
+    (
+        "eval x c : this.name = \"\u{e9}\"; name\nget g c name\neval y c : \u{e9}",
+        "x: value \"\u{e9}\"\ng: value \"\u{e9}\"\ny: throw ReferenceError(\"\u{e9} is not defined\")\n",
+    ),
+    // seven ticks are enough, and six are not; what was done before the stop stays
+    (
+        "eval x c timeout=7 : let a = 2; a * 21\neval y c timeout=6 : let b = 2; b * 21\neval z c : b",
+        "x: value 42\ny: timeout 6\nz: value 2\n",
+    ),
+    // a million ticks; the isolate goes on, with what was made before the stop
+    (
+        "eval x c : let t = 1; function f(n) { if (n < 40) { f(n + 1); f(n + 1); } } t = 2; f(0)\neval y c : t",
+        "x: timeout 1000000\ny: value 2\n",
     ),
 ];
 
@@ -200,8 +227,8 @@ static FAULTS: [(&str, &str); 33] = [
     ("isolate a\ncontext c a\neval x c", "3: BadWords"),
     ("isolate a\ncontext c a\neval x c <<E\n1 + 1", "3: OpenText"),
     (
-        "isolate a\ncontext c a\neval x c timeout=10 : 1",
-        "3: BadWords",
+        "isolate a\ncontext c a\neval x c timeout=0 : 1",
+        "3: BadNumber",
     ),
     ("isolate a\ncontext c a\nset s c k : [1]", "3: BadLiteral"),
     ("isolate a\ncontext c a\nset s c k : -0", "3: BadLiteral"),
