@@ -25,4 +25,12 @@ pub use host_syntax::{
 pub use read::read_host;
 
 #[cfg(test)]
+mod described;
+#[cfg(test)]
+mod limit_tests;
+#[cfg(test)]
+mod literal_tests;
+#[cfg(test)]
 mod tests;
+#[cfg(test)]
+mod timeout_tests;
