@@ -1,3 +1,3 @@
 mod FunctionLemmas
 mod Sequences
-mod Sound
+pub mod Sound

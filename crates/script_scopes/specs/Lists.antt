@@ -65,3 +65,8 @@ call_scope script global parent parameters declared arguments s =
 -- a scope of one name that can't change, for a function expression's own name
 unfoldable pub name_scope : ℕ → List ℕ → Store → Ends ℕ
 name_scope parent name s = scope_made (Some parent) (with_new [] name true) s
+
+-- a scope of one name that may change, which has this value: that of a `catch`
+unfoldable pub catch_scope : ℕ → List ℕ → Value → Store → Ends ℕ
+catch_scope parent name v s =
+    and_then (scope_made (Some parent) (with_new [] name false) s) (λ scope after. (Ok scope, initialised after scope name v))

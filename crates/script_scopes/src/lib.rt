@@ -14,7 +14,7 @@ mod scopes;
 mod scripts;
 
 pub use js_scopes::Fail;
-pub use scopes::{block_scope, call_scope, name_scope};
+pub use scopes::{block_scope, call_scope, catch_scope, name_scope};
 pub use scripts::declare_script;
 
 #[cfg(test)]

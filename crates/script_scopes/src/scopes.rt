@@ -1,12 +1,13 @@
-//! The scopes of blocks, of calls and of a function expression's own name.
+//! The scopes of blocks, of calls, of a function expression's own name and of a `catch`.
 ghost use Rattle.std.specs.Prelude.{◌≡◌, [], Some, IfOk, IfErr};
 ghost use Rattle.std.specs.List.{All};
 ghost use Rattle.charged_heap.specs.Closed.{IsClosed, IsSoundBinding, IsSoundValue};
 ghost use Rattle.charged_heap.specs.Growth.{Grows};
 ghost use Rattle.charged_heap.specs.Store.{IsAt, IsPlain, IsScope};
+ghost use Rattle.js_scopes.specs.Bindings.{with_new};
 ghost use Rattle.js_scopes.specs.Scopes.{scope_made};
 ghost use Rattle.script_scopes.specs.Ends.{Meets, IsSoundFail};
-ghost use Rattle.script_scopes.specs.Lists.{with_parameters, with_declared, with_arguments, block_scope, call_scope, name_scope};
+ghost use Rattle.script_scopes.specs.Lists.{with_parameters, with_declared, with_arguments, block_scope, call_scope, catch_scope, name_scope};
 
 use crate::functions::make_functions;
 use crate::names::new_bindings;
@@ -120,6 +121,28 @@ pub fn call_scope(
     make_functions(heap, script, global, scope, declared)
 }
 
+/// Makes a scope of one name inside another, constant or not; the name has no value yet.
+fn one_name(
+    alloc: Global,
+    heap: &mut Heap,
+    parent: u32,
+    name: &Units,
+    constant: bool,
+) -> Result<u32, Fail>
+    requires { IsAt IsScope heap.old parent }
+
+    ensures meets { Meets result heap.new (scope_made (Some parent) (with_new [] name.now constant) heap.old) }
+
+    ensures grown { Grows heap.old heap.new }
+    ensures closed { IsClosed heap.old → IsClosed heap.new }
+    ensures scope { IfOk result (IsAt IsScope heap.new) }
+    ensures thrown { IfErr result (IsSoundFail heap.new) }
+{
+    let mut bindings = Bindings::new(alloc);
+    add_binding(alloc, &mut bindings, name, constant).map_err(|_| Fail::NoMemory)?;
+    make_scope(alloc, heap, Some(parent), bindings)
+}
+
 /// Makes the scope of a function expression's own name (ECMA-262, InstantiateOrdinaryFunctionExpression)
 /// inside another: the name can't change, and has no value yet. It answers the scope's number.
 ///
@@ -136,7 +159,33 @@ pub fn name_scope(alloc: Global, heap: &mut Heap, parent: u32, name: &Units) -> 
     ensures scope { IfOk result (IsAt IsScope heap.new) }
     ensures thrown { IfErr result (IsSoundFail heap.new) }
 {
-    let mut bindings = Bindings::new(alloc);
-    add_binding(alloc, &mut bindings, name, true).map_err(|_| Fail::NoMemory)?;
-    make_scope(alloc, heap, Some(parent), bindings)
+    one_name(alloc, heap, parent, name, true)
+}
+
+/// Makes the scope of a `catch` (ECMA-262, CatchClauseEvaluation) inside another: its name may change, and has
+/// what was thrown as its value. It answers the scope's number.
+///
+/// `Over` comes exactly where the cells of the scope with its one name don't fit; then the heap is as it
+/// was. `NoMemory` may come, and nothing is thrown.
+#[tactic(auto, unfolding(crate::specs::Lists::catch_scope))]
+pub fn catch_scope(
+    alloc: Global,
+    heap: &mut Heap,
+    parent: u32,
+    name: &Units,
+    thrown: Value,
+) -> Result<u32, Fail>
+    requires parent { IsAt IsScope heap.old parent }
+    requires thrown { IsSoundValue heap.old thrown }
+
+    ensures meets { Meets result heap.new (catch_scope parent name.now thrown heap.old) }
+
+    ensures grown { Grows heap.old heap.new }
+    ensures closed { IsClosed heap.old → IsClosed heap.new }
+    ensures scope { IfOk result (IsAt IsScope heap.new) }
+    ensures thrown { IfErr result (IsSoundFail heap.new) }
+{
+    let scope = one_name(alloc, heap, parent, name, false)?;
+    initialise(heap, scope, name, thrown);
+    Ok(scope)
 }

@@ -1,6 +1,6 @@
 use Rattle.std.proofs.Common.{Some}
 use Rattle.script_scopes.proofs.Sound.{scope_throws_nothing}
-use Rattle.script_scopes.proofs.scopes.name_scope.Goals as goal
+use Rattle.script_scopes.proofs.scopes.one_name.Goals as goal
 
 pub returns-clause-thrown : goal.returns-clause-thrown
 returns-clause-thrown c =
