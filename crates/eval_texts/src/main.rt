@@ -84,10 +84,7 @@ fn has_rules(script: &Script) -> bool {
 }
 
 fn has_rule(kind: Kind) -> bool {
-    !matches!(
-        kind,
-        Kind::While | Kind::For | Kind::Break | Kind::Continue | Kind::Throw | Kind::Try | Kind::New
-    )
+    kind != Kind::New
 }
 
 fn tell_run<W: Write>(

@@ -63,7 +63,7 @@ thrown_item s (item.Text units) = text units
 thrown_item s (item.Error kind message) = error kind (unwrap_or (units_in (item_at s message)) [])
 thrown_item s _ = not_copyable
 
--- a thrown value: a primitive, a string, or an error with its message; no script can throw another yet
+-- a thrown value: a primitive, a string, or an error with its message; of another is told that it has no copy
 abbrev pub thrown_copy : Store → Value → Copy
 thrown_copy s value.Undefined = primitive leaf.Undefined
 thrown_copy s value.Null = primitive leaf.Null

@@ -14,7 +14,7 @@ ghost use Rattle.script_eval.specs.Weight.{IsEnded, IsStop};
 use charged_heap::{Builtin, Fail, Heap, Value};
 use ivm_text::{ErrorKind, Units};
 use js_syntax::Scripts;
-use script_meaning::{Abrupt, Ended, StopCause};
+use script_meaning::{Abrupt, Ended, StopCause, nodes_take_ticks};
 use script_steps::{Inner, Step, abrupt_of, begin, call_builtin, of_heap};
 use std::alloc::Global;
 
@@ -82,6 +82,7 @@ pub(crate) fn enter(
     ensures closed { IsClosed heap.new }
     ensures sound { IsSoundStep heap.new result }
 {
+    nodes_take_ticks();
     if !take_tick(left) {
         return Step::Ended(Err(Abrupt::Stop(StopCause::Timeout)));
     }

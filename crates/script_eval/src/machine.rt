@@ -16,7 +16,7 @@ use charged_heap::Heap;
 use item_list::Items;
 use ivm_text::NoMemory;
 use js_syntax::Scripts;
-use script_meaning::{Abrupt, Ended};
+use script_meaning::{Abrupt, Ended, nodes_take_ticks};
 use script_steps::{Frame, Inner, Step, resume};
 use std::alloc::Global;
 
@@ -110,6 +110,7 @@ fn advance(
     ensures sound { IfOk result (IsSoundControl heap.new) }
     ensures frames { AreSoundFrames heap.new frames.new }
 {
+    nodes_take_ticks();
     match next {
         Control::Node(inner) => {
             let room = MOST_NODES - frames.len();

@@ -21,6 +21,8 @@ use Rattle.script_meaning.specs.Places.{ScriptList, form_at, name_of}
 use Rattle.script_meaning.specs.Functions.{call_rule}
 use Rattle.script_meaning.specs.Expressions.{comma_rule, binary_rule, unary_rule, typeof_rule, void_rule, condition_rule, logical_rule, assign_rule, update_rule, step_rule, member_rule, index_rule, called_rule, array_rule, object_rule, closure_made, function_rule}
 use Rattle.script_meaning.specs.Statements.{list_rule, block_rule, declare_rule, if_rule, return_rule}
+use Rattle.script_meaning.specs.Loops.{while_rule, for_rule}
+use Rattle.script_meaning.specs.Handlers.{throw_rule, try_rule}
 use Rattle.script_meaning.specs.declared.completion.Abrupt.{Abrupt}
 use Rattle.script_meaning.specs.declared.completion.Abrupt.TheVariants as abrupt
 use Rattle.script_meaning.specs.declared.completion.Completion.{Completion}
@@ -97,7 +99,7 @@ callee_by kinds.Member scripts at t site s = member_rule role.Callee at t site s
 callee_by kinds.Index scripts at t site s = index_rule role.Callee at t.kids site s
 callee_by kind scripts at t site s = value_by kind scripts at t site s
 
--- a statement; forms that are no statements are empty, and those that aren't built yet
+-- a statement; forms that are no statements are empty
 abbrev pub statement_by : Kind → Inside → Tree → Site → State → Out
 statement_by kinds.Script at t site s = list_rule at t.kids site None s
 statement_by kinds.Body at t site s = list_rule at t.kids site None s
@@ -107,6 +109,12 @@ statement_by kinds.Const at t site s = declare_rule at t.head.names t.kids site 
 statement_by kinds.ExprStmt at t site s = at role.Value (kid 0 t.kids) site s
 statement_by kinds.If at t site s = if_rule at t.kids site s
 statement_by kinds.Return at t site s = return_rule at t.kids site s
+statement_by kinds.While at t site s = while_rule at t.kids site s
+statement_by kinds.For at t site s = for_rule at t.kids site s
+statement_by kinds.Break at t site s = (Err (abrupt.Break None), s)
+statement_by kinds.Continue at t site s = (Err (abrupt.Continue None), s)
+statement_by kinds.Throw at t site s = throw_rule at t.kids site s
+statement_by kinds.Try at t site s = try_rule at t site s
 statement_by _ at t site s = is_empty s
 
 abbrev pub node_by : Role → ScriptList → Inside → Tree → Site → State → Out

@@ -3,4 +3,7 @@ pub mod Places
 pub mod Functions
 pub mod Expressions
 pub mod Statements
+pub mod Loops
+pub mod Handlers
+pub mod Ticks
 pub mod Evaluates

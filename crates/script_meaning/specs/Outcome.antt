@@ -64,6 +64,11 @@ with_value (Ok (ended.Place place), s) go = (Ok (ended.Place place), s)
 with_value (Ok (ended.Member function receiver), s) go = (Ok (ended.Member function receiver), s)
 with_value (Err e, s) go = (Err e, s)
 
+-- goes on after whatever ended, with its value or without one
+abbrev pub with_end : Out → (State → Out) → Out
+with_end (Ok _, s) go = go s
+with_end (Err e, s) go = (Err e, s)
+
 -- goes on with a place; what is none passes
 abbrev pub with_place : Out → (Place → State → Out) → Out
 with_place (Ok (ended.Place place), s) go = go place s

@@ -13,7 +13,11 @@ use Rattle.script_meaning.specs.declared.site.Key.TheVariants as key
 use Rattle.script_meaning.specs.declared.site.Place.{Place}
 use Rattle.script_meaning.specs.declared.site.Place.TheVariants as place
 use Rattle.script_meaning.specs.declared.site.Site.{Site}
-use Rattle.script_steps.specs.Sound.{IsSoundKey, IsSoundPlace, IsSoundSite, IsSoundFrame, IsSoundCall}
+use Rattle.script_meaning.specs.declared.completion.Abrupt.{Abrupt}
+use Rattle.script_meaning.specs.declared.completion.Abrupt.TheVariants as abrupt
+use Rattle.script_meaning.specs.declared.completion.Ended.{Ended}
+use Rattle.script_meaning.specs.declared.completion.Ended.TheVariants as ended
+use Rattle.script_steps.specs.Sound.{IsSoundKey, IsSoundPlace, IsSoundSite, IsSoundFrame, IsSoundCall, IsSoundEnded, IsSoundAbrupt, IsSoundEnd}
 use Rattle.script_steps.specs.declared.frame.Frame.{Frame}
 use Rattle.script_steps.specs.declared.frame.Frame.TheVariants as frame
 
@@ -47,6 +51,24 @@ call_grows s t function receiver values site grows sound = record {
   at = site_grows s t site grows sound.at;
 }
 
+ended_grows : (s t : Store) (end : Ended) → Grows s t → IsSoundEnded s end → IsSoundEnded t end
+ended_grows s t ended.Empty grows sound = tt
+ended_grows s t (ended.Value v) grows sound = value_grows s t v grows sound
+ended_grows s t (ended.Place p) grows sound = place_grows s t p grows sound
+ended_grows s t (ended.Member function receiver) grows sound = (value_grows s t function grows sound.0, value_grows s t receiver grows sound.1)
+
+abrupt_grows : (s t : Store) (end : Abrupt) → Grows s t → IsSoundAbrupt s end → IsSoundAbrupt t end
+abrupt_grows s t (abrupt.Throw v) grows sound = value_grows s t v grows sound
+abrupt_grows s t (abrupt.Return v) grows sound = value_grows s t v grows sound
+abrupt_grows s t (abrupt.Break v) grows sound = option_grows s t v grows sound
+abrupt_grows s t (abrupt.Continue v) grows sound = option_grows s t v grows sound
+abrupt_grows s t (abrupt.Stop cause) grows sound = tt
+abrupt_grows s t abrupt.NoMemory grows sound = tt
+
+pub end_grows : (s t : Store) (end : Result Ended Abrupt) → Grows s t → IsSoundEnd s end → IsSoundEnd t end
+end_grows s t (Ok end) grows sound = ended_grows s t end grows sound
+end_grows s t (Err end) grows sound = abrupt_grows s t end grows sound
+
 pub frame_grows : (s t : Store) (f : Frame) → Grows s t → IsSoundFrame s f → IsSoundFrame t f
 frame_grows s t (frame.Comma right site) grows sound = site_grows s t site grows sound
 frame_grows s t (frame.Left operator right site) grows sound = site_grows s t site grows sound
@@ -76,5 +98,13 @@ frame_grows s t (frame.Member role node script) grows sound = tt
 frame_grows s t frame.Body grows sound = tt
 frame_grows s t frame.Filled grows sound = tt
 frame_grows s t frame.Return grows sound = tt
+frame_grows s t (frame.LoopTest parts last site) grows sound = (option_grows s t last grows sound.0, site_grows s t site grows sound.1)
+frame_grows s t (frame.LoopBody parts last site) grows sound = (option_grows s t last grows sound.0, site_grows s t site grows sound.1)
+frame_grows s t (frame.LoopUpdate parts last site) grows sound = (option_grows s t last grows sound.0, site_grows s t site grows sound.1)
+frame_grows s t (frame.ForHead parts site) grows sound = site_grows s t site grows sound
+frame_grows s t frame.Throw grows sound = tt
+frame_grows s t (frame.Try node site) grows sound = site_grows s t site grows sound
+frame_grows s t (frame.Catch node site) grows sound = site_grows s t site grows sound
+frame_grows s t (frame.Finally before) grows sound = end_grows s t before grows sound
 
 pub ruleset growing = (site_grows, place_grows, values_grow, option_grows, value_grows, grows_then, grows-refl, at_grows)

@@ -4,3 +4,5 @@ pub mod ListLemmas
 pub mod PlaceLemmas
 pub mod CallLemmas
 pub mod Passing
+pub mod LoopLemmas
+pub mod HandlerLemmas

@@ -18,6 +18,11 @@ unfolding after
 abrupt_passes at scripts frame.Body abrupt s not = absurd (not tt)
 abrupt_passes at scripts (frame.List n p l site) abrupt s not = absurd (not tt)
 abrupt_passes at scripts frame.Filled abrupt s not = absurd (not tt)
+abrupt_passes at scripts (frame.LoopBody parts last site) abrupt s not = absurd (not tt)
+abrupt_passes at scripts (frame.ForHead parts site) abrupt s not = absurd (not tt)
+abrupt_passes at scripts (frame.Try node site) abrupt s not = absurd (not tt)
+abrupt_passes at scripts (frame.Catch node site) abrupt s not = absurd (not tt)
+abrupt_passes at scripts (frame.Finally before) abrupt s not = absurd (not tt)
 abrupt_passes at scripts _ abrupt s not = refl
 
 pub empty_passes : (at : Inside) (scripts : ScriptList) (f : Frame) (s : State)
@@ -26,6 +31,11 @@ unfolding after
 empty_passes at scripts frame.Body s not = absurd (not tt)
 empty_passes at scripts (frame.List n p l site) s not = absurd (not tt)
 empty_passes at scripts frame.Filled s not = absurd (not tt)
+empty_passes at scripts (frame.LoopBody parts last site) s not = absurd (not tt)
+empty_passes at scripts (frame.ForHead parts site) s not = absurd (not tt)
+empty_passes at scripts (frame.Try node site) s not = absurd (not tt)
+empty_passes at scripts (frame.Catch node site) s not = absurd (not tt)
+empty_passes at scripts (frame.Finally before) s not = absurd (not tt)
 empty_passes at scripts _ s not = refl
 
 pub place_passes : (at : Inside) (scripts : ScriptList) (f : Frame) (p : Place) (s : State)
@@ -34,6 +44,11 @@ unfolding after
 place_passes at scripts frame.Body p s not other = absurd (not tt)
 place_passes at scripts (frame.List n i l site) p s not other = absurd (not tt)
 place_passes at scripts frame.Filled p s not other = absurd (not tt)
+place_passes at scripts (frame.LoopBody parts last site) p s not other = absurd (not tt)
+place_passes at scripts (frame.ForHead parts site) p s not other = absurd (not tt)
+place_passes at scripts (frame.Try node site) p s not other = absurd (not tt)
+place_passes at scripts (frame.Catch node site) p s not other = absurd (not tt)
+place_passes at scripts (frame.Finally before) p s not other = absurd (not tt)
 place_passes at scripts (frame.TypeOfPlace site) p s not other = absurd (other tt)
 place_passes at scripts (frame.AssignTarget right site) p s not other = absurd (other tt)
 place_passes at scripts (frame.UpdateTarget op right site) p s not other = absurd (other tt)

@@ -11,11 +11,14 @@ use Rattle.js_members.specs.Reads.{read_outcome}
 use Rattle.js_members.specs.Writes.{write_outcome}
 use Rattle.js_scopes.specs.Scopes.{initialised}
 use Rattle.script_trees.specs.Tree.{Tree, kid, kids_from}
-use Rattle.script_meaning.specs.Outcome.{State, Out, Inside, gives, of_heap, with_value, with_place, with_callee}
+use Rattle.script_meaning.specs.Outcome.{State, Out, Inside, gives, of_heap, with_value, with_end, with_place, with_callee}
+use Rattle.script_meaning.specs.Ticks.{TakesTicks}
 use Rattle.script_meaning.specs.Places.{ScriptList, form_at, name_at, key_of, place_read, place_written, place_type}
 use Rattle.script_meaning.specs.Functions.{call_rule, builtin_rule, returned}
 use Rattle.script_meaning.specs.Expressions.{goes_right, given, member_for, computed_for, arguments_rule, elements_rule, properties_rule}
 use Rattle.script_meaning.specs.Statements.{after_statement, list_rule, declare_rule, filled, else_by}
+use Rattle.script_meaning.specs.Loops.{after_body, first_round, loop_end, loop_rule, to_next, turn}
+use Rattle.script_meaning.specs.Handlers.{handled, kept, try_end}
 use Rattle.script_meaning.specs.declared.completion.Abrupt.TheVariants as abrupt
 use Rattle.script_meaning.specs.declared.site.Key.TheVariants as key
 use Rattle.script_meaning.specs.declared.site.Role.{Role}
@@ -26,6 +29,7 @@ use Rattle.script_steps.specs.declared.frame.Frame.TheVariants as frame
 use Rattle.script_steps.specs.declared.frame.Inner.{Inner}
 use Rattle.script_steps.specs.declared.frame.Step.{Step}
 use Rattle.script_steps.specs.declared.frame.Step.TheVariants.{Ended, Into, Builtin}
+use Rattle.script_steps.specs.Loops.{loop_of}
 
 -- a node of the site's script, evaluated there
 abbrev pub node_out : Inside → ScriptList → Role → ℕ → Site → State → Out
@@ -97,6 +101,21 @@ after at scripts (frame.If good bad site) o =
     else else_by (form_at scripts site.script bad).head.kind (node_out at scripts role.Statement bad site s) s))
 after at scripts frame.Filled o = filled o
 after at scripts frame.Return o = with_value o (λ v s. (Err (abrupt.Return v), s))
+after at scripts (frame.LoopTest parts last site) o =
+    with_value o (λ v s. if truthy s.heap v
+    then turn at (loop_of scripts site.script parts) last site s (λ last inside s. loop_rule at (loop_of scripts site.script parts) last inside s)
+    else loop_end last s)
+after at scripts (frame.LoopBody parts last site) o =
+    after_body last o (λ last s.
+    to_next at (loop_of scripts site.script parts) site s (λ inside s. loop_rule at (loop_of scripts site.script parts) last inside s))
+after at scripts (frame.LoopUpdate parts last site) o =
+    with_value o (λ _ s. loop_rule at (loop_of scripts site.script parts) last site s)
+after at scripts (frame.ForHead parts site) o = with_end o (λ s. first_round at (loop_of scripts site.script parts) site s)
+after at scripts frame.Throw o = with_value o (λ v s. (Err (abrupt.Throw v), s))
+after at scripts (frame.Try node site) o =
+    try_end at (form_at scripts site.script node) site (handled at (form_at scripts site.script node) site o)
+after at scripts (frame.Catch node site) o = try_end at (form_at scripts site.script node) site o
+after at scripts (frame.Finally before) o = filled (kept before o)
 
 -- ---- steps
 
@@ -118,3 +137,9 @@ Steps scripts step old new meaning =
 -- the same of a step that leaves every store as it is
 abbrev pub Waits : ScriptList → Step → (Inside → State → Out) → Type 0
 Waits scripts step meaning = (at : Inside) (s : State) → step_out at scripts step s ≡ meaning at s
+
+-- so comes a step to it, however many ticks are left, where each node inside takes a tick
+abbrev pub Turns : ScriptList → Step → Store → Store → (Inside → State → Out) → Type 0
+Turns scripts step old new meaning =
+    step ≢ Ended (Err abrupt.NoMemory) → (at : Inside) → TakesTicks at → (left : ℕ)
+    → step_out at scripts step (with_left new left) ≡ meaning at (with_left old left)

@@ -56,6 +56,11 @@ abbrev pub TakesAnyEnd : Frame → Type 0
 TakesAnyEnd frame.Body = Unit {0}
 TakesAnyEnd (frame.List _ _ _ _) = Unit {0}
 TakesAnyEnd frame.Filled = Unit {0}
+TakesAnyEnd (frame.LoopBody _ _ _) = Unit {0}
+TakesAnyEnd (frame.ForHead _ _) = Unit {0}
+TakesAnyEnd (frame.Try _ _) = Unit {0}
+TakesAnyEnd (frame.Catch _ _) = Unit {0}
+TakesAnyEnd (frame.Finally _) = Unit {0}
 TakesAnyEnd _ = ⊥
 
 -- the form waits for a place

@@ -1,4 +1,5 @@
 pub mod Ends
+pub mod Loops
 pub mod After
 pub mod Sound
 pub mod Callees

@@ -101,6 +101,14 @@ IsSoundFrame s (frame.Declarator node at site) = IsSoundSite s site
 IsSoundFrame s (frame.If good bad site) = IsSoundSite s site
 IsSoundFrame s frame.Filled = Unit {0}
 IsSoundFrame s frame.Return = Unit {0}
+IsSoundFrame s (frame.LoopTest parts last site) = IfSome last (IsSoundValue s) × IsSoundSite s site
+IsSoundFrame s (frame.LoopBody parts last site) = IfSome last (IsSoundValue s) × IsSoundSite s site
+IsSoundFrame s (frame.LoopUpdate parts last site) = IfSome last (IsSoundValue s) × IsSoundSite s site
+IsSoundFrame s (frame.ForHead parts site) = IsSoundSite s site
+IsSoundFrame s frame.Throw = Unit {0}
+IsSoundFrame s (frame.Try node site) = IsSoundSite s site
+IsSoundFrame s (frame.Catch node site) = IsSoundSite s site
+IsSoundFrame s (frame.Finally before) = IsSoundEnd s before
 
 -- ---- steps
 

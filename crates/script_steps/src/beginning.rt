@@ -5,7 +5,7 @@ ghost use Rattle.charged_heap.specs.Growth.{Grows};
 ghost use Rattle.charged_heap.specs.Store.{Store};
 ghost use Rattle.script_meaning.specs.Evaluates.{value_by, callee_by, statement_by, node_by};
 ghost use Rattle.script_meaning.specs.Places.{form_at};
-ghost use Rattle.script_steps.specs.After.{Steps, Waits};
+ghost use Rattle.script_steps.specs.After.{Steps, Turns, Waits};
 ghost use Rattle.script_steps.specs.Groups.{BeginsInside, IsOneOperand, assignment_of};
 ghost use Rattle.script_steps.specs.Sound.{IsThere, IsSoundSite, IsSoundStep};
 
@@ -13,8 +13,10 @@ use crate::assignments::{begin_assign, begin_step, begin_update};
 use crate::calls::begin_call;
 use crate::forms::{kid_at, kind_at};
 use crate::functions::{arrow, function};
+use crate::handlers::{begin_throw, begin_try};
 use crate::leaves::leaf;
 use crate::literals::{begin_array, begin_object};
+use crate::loops::{begin_for, begin_while};
 use crate::members::{begin_index, begin_member};
 use crate::operators::{
     begin_binary, begin_comma, begin_condition, begin_logical, begin_typeof, begin_unary,
@@ -26,7 +28,7 @@ use crate::{Frame, Inner, Step};
 use charged_heap::Heap;
 use js_ops::{Arithmetic, BinaryOperator, UnaryOperator};
 use js_syntax::{Kind, Scripts};
-use script_meaning::{Ended, Role, Site};
+use script_meaning::{Abrupt, Ended, Role, Site};
 use std::alloc::Global;
 
 // ---- expressions
@@ -185,7 +187,7 @@ fn begin_statement(
     requires closed { IsClosed heap.old }
     requires site { IsSoundSite heap.old site }
 
-    ensures step { Steps scripts.now result heap.old heap.new (λ at s. statement_by kind at (form_at scripts.now site.script node) site s) }
+    ensures step { Turns scripts.now result heap.old heap.new (λ at s. statement_by kind at (form_at scripts.now site.script node) site s) }
 
     ensures grown { Grows heap.old heap.new }
     ensures closed { IsClosed heap.new }
@@ -198,6 +200,12 @@ fn begin_statement(
         Kind::ExprStmt => begin_expression(scripts, node, site),
         Kind::If => begin_if(scripts, node, site),
         Kind::Return => begin_return(scripts, node, site),
+        Kind::While => begin_while(scripts, node, site),
+        Kind::For => begin_for(alloc, scripts, heap, node, site),
+        Kind::Break => Step::Ended(Err(Abrupt::Break(None))),
+        Kind::Continue => Step::Ended(Err(Abrupt::Continue(None))),
+        Kind::Throw => begin_throw(scripts, node, site),
+        Kind::Try => begin_try(scripts, node, site),
         _ => Step::Ended(Ok(Ended::Empty)),
     }
 }
@@ -213,7 +221,7 @@ pub fn begin(alloc: Global, scripts: &Scripts, heap: &mut Heap, inner: Inner) ->
     requires closed { IsClosed heap.old }
     requires site { IsSoundSite heap.old inner.site }
 
-    ensures step { Steps scripts.now result heap.old heap.new (λ at s. node_by inner.role scripts.now at (form_at scripts.now inner.site.script inner.node) inner.site s) }
+    ensures step { Turns scripts.now result heap.old heap.new (λ at s. node_by inner.role scripts.now at (form_at scripts.now inner.site.script inner.node) inner.site s) }
 
     ensures grown { Grows heap.old heap.new }
     ensures closed { IsClosed heap.new }

@@ -1,4 +1,4 @@
-//! Lists of statements, and statements that an `if` chose, with whatever ends a statement inside them.
+//! Lists of statements, and statements that may be empty, with whatever ends a statement inside them.
 ghost use Rattle.std.specs.Prelude.{◌≡◌, suc, Ok, Option, IfSome};
 ghost use Rattle.charged_heap.specs.Closed.{IsSoundValue};
 ghost use Rattle.charged_heap.specs.Store.{Store};
@@ -16,7 +16,7 @@ use js_syntax::Scripts;
 use script_meaning::{Abrupt, Ended, Site};
 
 /// The value of a statement, where it has one.
-fn value_in(end: Ended) -> Option<Value>
+pub(crate) fn value_in(end: Ended) -> Option<Value>
     ensures value { result ≡ value_in end }
     ensures sound { (s : Store) → IsSoundEnded s end → IfSome result (IsSoundValue s) }
 {
@@ -59,7 +59,7 @@ pub(crate) fn list(
     }
 }
 
-/// Ends an `if` with the end of the statement that it chose, whose value is undefined where it has none.
+/// Ends an `if` or a `try` with the end of what it chose, whose value is undefined where it has none.
 #[tactic(auto, unfolding(crate::specs::After::after))]
 pub(crate) fn filled(scripts: &Scripts, end: Result<Ended, Abrupt>) -> Step
     ensures step { Waits scripts.now result (λ at s. after at scripts.now Frame.Filled (end, s)) }

@@ -148,6 +148,56 @@ pub enum Frame {
     Filled,
     /// A `return` that waits for its value.
     Return,
+    /// A loop that waits for its test, with the last value so far.
+    LoopTest {
+        parts: LoopParts,
+        last: Option<Value>,
+        site: Site,
+    },
+    /// A loop that waits for its body.
+    LoopBody {
+        parts: LoopParts,
+        last: Option<Value>,
+        site: Site,
+    },
+    /// A loop that waits for its update.
+    LoopUpdate {
+        parts: LoopParts,
+        last: Option<Value>,
+        site: Site,
+    },
+    /// A `for` that waits for what stands before its first `;`.
+    ForHead {
+        parts: LoopParts,
+        site: Site,
+    },
+    /// A `throw` that waits for its value.
+    Throw,
+    /// A `try` that waits for its block.
+    Try {
+        node: u32,
+        site: Site,
+    },
+    /// A `try` that waits for the block of its `catch`.
+    Catch {
+        node: u32,
+        site: Site,
+    },
+    /// A `try` that waits for its `finally`, with the end before.
+    Finally {
+        before: Result<Ended, Abrupt>,
+    },
+}
+
+/// The parts of a loop, by their numbers in the site's script.
+#[derive(Debug, Clone, Copy, PartialEq, Eq)]
+pub struct LoopParts {
+    /// None where it is left out: then it holds.
+    pub test: Option<u32>,
+    pub body: u32,
+    pub update: Option<u32>,
+    /// Whether each round has a scope of its own.
+    pub fresh: bool,
 }
 
 /// A node that is to be evaluated, for what, and where.

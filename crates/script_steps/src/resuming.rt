@@ -3,7 +3,7 @@ ghost use Rattle.std.specs.Prelude.{◌≡◌, Ok, Result};
 ghost use Rattle.charged_heap.specs.Closed.{IsClosed, IsSoundValue};
 ghost use Rattle.charged_heap.specs.Growth.{Grows};
 ghost use Rattle.charged_heap.specs.Store.{Store};
-ghost use Rattle.script_steps.specs.After.{after, Steps};
+ghost use Rattle.script_steps.specs.After.{after, Turns};
 ghost use Rattle.script_steps.specs.Groups.{TakesAnyEnd, TakesOperand, TakesPlace};
 ghost use Rattle.script_steps.specs.Sound.{IsSoundEnd, IsSoundFrame, IsSoundPlace, IsSoundStep};
 
@@ -11,7 +11,9 @@ use crate::assignments::{assign_target, assign_value, step_target, update_target
 use crate::called::body;
 use crate::calls::{argument, callee, callee_member};
 use crate::endings::{filled, list};
+use crate::handlers::{finish, finished, tried};
 use crate::literals::{element, property};
+use crate::loops::{loop_body, loop_headed, loop_tested, loop_updated};
 use crate::members::{index_key, index_object, member, type_of};
 use crate::operators::{condition, left, logical, operand, right};
 use crate::statements::{declarator, if_chosen};
@@ -38,7 +40,7 @@ fn resume_further(
     requires operand { TakesOperand frame → ⊥ }
     requires value { IsSoundValue heap.old value }
 
-    ensures step { Steps scripts.now result heap.old heap.new (λ at s. after at scripts.now frame (Ok (Ended.Value value), s)) }
+    ensures step { Turns scripts.now result heap.old heap.new (λ at s. after at scripts.now frame (Ok (Ended.Value value), s)) }
 
     ensures grown { Grows heap.old heap.new }
     ensures closed { IsClosed heap.new }
@@ -87,6 +89,11 @@ fn resume_further(
         ),
         Frame::If { good, bad, site } => if_chosen(scripts, heap, good, bad, site, value),
         Frame::Return => Step::Ended(Err(Abrupt::Return(value))),
+        Frame::LoopTest { parts, last, site } => {
+            loop_tested(scripts, heap, parts, last, site, value)
+        }
+        Frame::LoopUpdate { parts, last, site } => loop_updated(scripts, parts, last, site, value),
+        Frame::Throw => Step::Ended(Err(Abrupt::Throw(value))),
         _ => Step::Ended(Ok(Ended::Value(value))),
     }
 }
@@ -105,7 +112,7 @@ fn resume_value(
     requires passes { TakesAnyEnd frame → ⊥ }
     requires value { IsSoundValue heap.old value }
 
-    ensures step { Steps scripts.now result heap.old heap.new (λ at s. after at scripts.now frame (Ok (Ended.Value value), s)) }
+    ensures step { Turns scripts.now result heap.old heap.new (λ at s. after at scripts.now frame (Ok (Ended.Value value), s)) }
 
     ensures grown { Grows heap.old heap.new }
     ensures closed { IsClosed heap.new }
@@ -148,7 +155,7 @@ fn resume_place(
     requires passes { TakesAnyEnd frame → ⊥ }
     requires place { IsSoundPlace heap.old place }
 
-    ensures step { Steps scripts.now result heap.old heap.new (λ at s. after at scripts.now frame (Ok (Ended.Place place), s)) }
+    ensures step { Turns scripts.now result heap.old heap.new (λ at s. after at scripts.now frame (Ok (Ended.Place place), s)) }
 
     ensures grown { Grows heap.old heap.new }
     ensures closed { IsClosed heap.new }
@@ -187,7 +194,7 @@ fn resume_member(
     requires function { IsSoundValue heap.old function }
     requires receiver { IsSoundValue heap.old receiver }
 
-    ensures step { Steps scripts.now result heap.old heap.new (λ at s. after at scripts.now frame (Ok (Ended.Member function receiver), s)) }
+    ensures step { Turns scripts.now result heap.old heap.new (λ at s. after at scripts.now frame (Ok (Ended.Member function receiver), s)) }
 
     ensures grown { Grows heap.old heap.new }
     ensures closed { IsClosed heap.new }
@@ -215,7 +222,7 @@ fn resume_form(
     requires passes { TakesAnyEnd frame → ⊥ }
     requires ended { IsSoundEnd heap.old ended }
 
-    ensures step { Steps scripts.now result heap.old heap.new (λ at s. after at scripts.now frame (ended, s)) }
+    ensures step { Turns scripts.now result heap.old heap.new (λ at s. after at scripts.now frame (ended, s)) }
 
     ensures grown { Grows heap.old heap.new }
     ensures closed { IsClosed heap.new }
@@ -237,7 +244,8 @@ fn resume_form(
 /// The step of a form whose node inside has ended so (ECMA-262, Runtime Semantics: Evaluation).
 ///
 /// The step ends the form, waits for the next node inside it, or calls a built-in function. An end that the form
-/// doesn't wait for is its own end, and so is every abrupt one but for lists, statements that may be empty, and calls.
+/// doesn't wait for is its own end, and so is every abrupt one but for lists, statements that may be empty, loops,
+/// `try` and calls. A stop is the end of every form.
 /// Want of memory ends the form with `Abrupt::NoMemory`; the heap keeps what was made until then.
 #[tactic(auto)]
 pub fn resume(
@@ -251,7 +259,7 @@ pub fn resume(
     requires frame { IsSoundFrame heap.old frame }
     requires ended { IsSoundEnd heap.old ended }
 
-    ensures step { Steps scripts.now result heap.old heap.new (λ at s. after at scripts.now frame (ended, s)) }
+    ensures step { Turns scripts.now result heap.old heap.new (λ at s. after at scripts.now frame (ended, s)) }
 
     ensures grown { Grows heap.old heap.new }
     ensures closed { IsClosed heap.new }
@@ -266,6 +274,13 @@ pub fn resume(
         } => list(scripts, node, place, last, site, ended),
         Frame::Filled => filled(scripts, ended),
         Frame::Body => body(scripts, ended),
+        Frame::LoopBody { parts, last, site } => loop_body(
+            alloc, scripts, heap, parts, last, site, ended,
+        ),
+        Frame::ForHead { parts, site } => loop_headed(alloc, scripts, heap, parts, site, ended),
+        Frame::Try { node, site } => tried(alloc, scripts, heap, node, site, ended),
+        Frame::Catch { node, site } => finish(scripts, node, site, ended),
+        Frame::Finally { before } => finished(scripts, before, ended),
         frame => resume_form(alloc, scripts, heap, frame, ended),
     }
 }

@@ -7,12 +7,6 @@ use Rattle.js_syntax.specs.Tree.{Trees, nothing, tree}
 
 -- a form of this kind can't be carried out yet
 abbrev pub is_unbuilt : Kind → Bool
-is_unbuilt kinds.While = true
-is_unbuilt kinds.For = true
-is_unbuilt kinds.Break = true
-is_unbuilt kinds.Continue = true
-is_unbuilt kinds.Throw = true
-is_unbuilt kinds.Try = true
 is_unbuilt kinds.New = true
 is_unbuilt _ = false
 

@@ -8,17 +8,21 @@ use std::test::Fail;
 
 /// Scripts, by how many numbers there are and how many of them stand for a form: the parameters of an arrow function are
 /// read as expressions first, and those are none of the text's forms.
-static SCRIPTS: [(&[u8], &str); 6] = [
+static SCRIPTS: [(&[u8], &str); 10] = [
     (b"", "1 of 1"),
     (b"1;", "3 of 3"),
     (b"f();", "4 of 4"),
     (b"x => x", "4 of 5"),
     (b"(a, b) => a", "4 of 7"),
     (b"() => { return 1; };", "6 of 6"),
+    (b"while (1) break;", "4 of 4"),
+    (b"for (;;) continue;", "3 of 6"),
+    (b"throw 1;", "3 of 3"),
+    (b"try { } catch { }", "4 of 5"),
 ];
 
 /// Texts that are refused: those without tokens or a tree, then early faults, then forms that aren't built.
-static REFUSED: [(&[u8], &str); 18] = [
+static REFUSED: [(&[u8], &str); 17] = [
     (b"a;\xff", "BadUtf8@2"),
     (b"'a", "OpenString@0"),
     (b"while (1) }", "Unexpected@10"),
@@ -27,16 +31,18 @@ static REFUSED: [(&[u8], &str); 18] = [
     (b"break;", "StrayBreak@0"),
     (b"while (1) ; let a; let a;", "TwiceDeclared@23"),
     (b"throw 1; return;", "StrayReturn@9"),
-    (b"let a; while (a) ;", "Unexpected@7"),
-    (b"1; for (;;) ;", "Unexpected@3"),
-    (b"while (1) break;", "Unexpected@0"),
-    (b"for (;;) continue;", "Unexpected@0"),
-    (b"f(); throw 1;", "Unexpected@5"),
-    (b"; try { } catch { }", "Unexpected@2"),
+    (b"new Error('a'); return;", "StrayReturn@16"),
+    (b"new Error('a'); 1 = 2;", "BadTarget@16"),
     (b"a = new Error('a');", "Unexpected@4"),
-    (b"a => { throw a; };", "Unexpected@7"),
-    (b"throw 1; throw 2;", "Unexpected@0"),
-    (b"f(new Error('a'), () => { throw 1; });", "Unexpected@2"),
+    (b"while (new Error('a')) ;", "Unexpected@7"),
+    (b"for (;;) new Error('a');", "Unexpected@9"),
+    (b"a => { throw new Error(a); };", "Unexpected@13"),
+    (b"try { } catch { new Error('a'); }", "Unexpected@16"),
+    (b"new Error('a'); new Error('b');", "Unexpected@0"),
+    (
+        b"f(new Error('a'), () => { new Error('b'); });",
+        "Unexpected@2",
+    ),
 ];
 
 fn count_of(checked: &Checked) -> (u32, u32) {

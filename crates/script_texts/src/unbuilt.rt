@@ -9,10 +9,7 @@ use js_syntax::{Kind, Node, Script};
 fn is_unbuilt(kind: Kind) -> bool
     ensures { result ≡ is_unbuilt_kind kind }
 {
-    matches!(
-        kind,
-        Kind::While | Kind::For | Kind::Break | Kind::Continue | Kind::Throw | Kind::Try | Kind::New
-    )
+    matches!(kind, Kind::New)
 }
 
 // The place of a form that can't be carried out yet.
