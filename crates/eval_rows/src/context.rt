@@ -151,3 +151,20 @@ pub fn outcome(
     let text = end_text(alloc, heap, end)?;
     Ok(format!(in alloc; "{text}; {ticks} ticks, {cells} cells")?)
 }
+
+/// The budget and the limit of scripts that are to end by themselves.
+pub const AMPLE: u32 = 1_000_000;
+
+/// The rows of a table whose script, run in a new context with ample ticks and cells, ended otherwise.
+pub fn differing(alloc: Global, rows: &[(&str, &str)]) -> Result<String, Fail> {
+    let mut wrong = String::new(alloc);
+    for (text, wanted) in rows {
+        let scripts = scripts_of(alloc, &[*text])?;
+        let mut heap = heap_of(alloc, AMPLE)?;
+        let found = outcome(alloc, &mut heap, &scripts, 0, AMPLE)?;
+        if found.as_str() != *wanted {
+            wrong.push_str(&format!(in alloc; "\n{text:?} is {found}, not {wanted}")?)?;
+        }
+    }
+    Ok(wrong)
+}

@@ -3,12 +3,22 @@
 //! Contracts see nothing here: it has tests alone.
 //! Rely on: each end, each tick and each cell was worked out by hand from docs/SCRIPTS.md and docs/PRICES.md.
 //! Over `script_eval`, `js_parser` and `js_early`; under no crate.
-//! Begin with `src/rows.rt`, then `src/stops.rt` and `src/context.rt`.
+//! Begin with `src/rows.rt`, then `src/loops.rt`, `src/throws.rt`, `src/stops.rt` and `src/context.rt`.
 #![tactic(auto)]
 
 #[cfg(test)]
 mod context;
 #[cfg(test)]
+mod finals;
+#[cfg(test)]
+mod jumps;
+#[cfg(test)]
+mod loops;
+#[cfg(test)]
+mod rounds;
+#[cfg(test)]
 mod rows;
 #[cfg(test)]
 mod stops;
+#[cfg(test)]
+mod throws;

@@ -4,13 +4,8 @@
 //! array, a function or an error 4, an element 1, a property 2 and 1 for each four units begun of its key, a
 //! string 1 and 1 for each four units begun.
 
-use crate::context::{heap_of, outcome, scripts_of};
-use std::alloc::Global;
+use crate::context::{AMPLE, differing, heap_of, outcome, scripts_of};
 use std::test::Fail;
-
-const BUDGET: u32 = 1_000_000;
-
-const LIMIT: u32 = 1_000_000;
 
 /// Values of statements and of lists.
 static STATEMENTS: [(&str, &str); 18] = [
@@ -248,20 +243,6 @@ static AFTER: [(&str, &str, &str); 6] = [
     ),
 ];
 
-/// The rows of a table whose run ended otherwise.
-fn differing(alloc: Global, rows: &[(&str, &str)]) -> Result<String, Fail> {
-    let mut wrong = String::new(alloc);
-    for (text, wanted) in rows {
-        let scripts = scripts_of(alloc, &[*text])?;
-        let mut heap = heap_of(alloc, LIMIT)?;
-        let found = outcome(alloc, &mut heap, &scripts, 0, BUDGET)?;
-        if found.as_str() != *wanted {
-            wrong.push_str(&format!(in alloc; "\n{text:?} is {found}, not {wanted}")?)?;
-        }
-    }
-    Ok(wrong)
-}
-
 #[test]
 fn scripts_end_as_they_should(rt: HostRuntime) -> Result<(), Fail> {
     for rows in [&STATEMENTS[..], &EXPRESSIONS[..], &FUNCTIONS[..]] {
@@ -276,9 +257,9 @@ fn a_script_finds_what_an_earlier_one_left(rt: HostRuntime) -> Result<(), Fail> 
     let alloc = rt.alloc();
     for (first, second, wanted) in AFTER {
         let scripts = scripts_of(alloc, &[first, second])?;
-        let mut heap = heap_of(alloc, LIMIT)?;
-        let _earlier = outcome(alloc, &mut heap, &scripts, 0, BUDGET)?;
-        let found = outcome(alloc, &mut heap, &scripts, 1, BUDGET)?;
+        let mut heap = heap_of(alloc, AMPLE)?;
+        let _earlier = outcome(alloc, &mut heap, &scripts, 0, AMPLE)?;
+        let found = outcome(alloc, &mut heap, &scripts, 1, AMPLE)?;
         assert_eq!(rt; found.as_str(), wanted);
     }
     Ok(())

@@ -58,6 +58,149 @@ static STOPS: [(&str, u32, u32, &str); 20] = [
     ),
 ];
 
+/// Loops, whose scopes of rounds are charges like others.
+static LOOPS: [(&str, u32, u32, &str); 13] = [
+    (
+        "for (let i = 0; i < 15; i++) { } -7",
+        100,
+        51,
+        "-7; 100 ticks, 51 cells",
+    ),
+    (
+        "for (let i = 0; i < 15; i++) { } -7",
+        99,
+        51,
+        "timeout; 99 ticks, 51 cells",
+    ),
+    ("while (true) { }", 10, 0, "timeout; 10 ticks, 0 cells"),
+    ("while (true) { }", 9, 0, "timeout; 9 ticks, 0 cells"),
+    ("while (true) { }", 0, 0, "timeout; 0 ticks, 0 cells"),
+    ("for (;;);", 5, 0, "timeout; 5 ticks, 0 cells"),
+    // the scope of a round is made before its update is due
+    (
+        "for (let i = 0; ; i++) { }",
+        4,
+        99,
+        "timeout; 4 ticks, 6 cells",
+    ),
+    (
+        "for (let i = 0; ; i++) { }",
+        5,
+        99,
+        "timeout; 5 ticks, 9 cells",
+    ),
+    (
+        "for (let i = 0; ; i++) { }",
+        6,
+        99,
+        "timeout; 6 ticks, 9 cells",
+    ),
+    // the scope of the head, the first round's and the second round's
+    (
+        "for (let i = 0; i < 1; i++) { }",
+        99,
+        2,
+        "memory 12 3 14; 2 ticks, 0 cells",
+    ),
+    (
+        "for (let i = 0; i < 1; i++) { }",
+        99,
+        5,
+        "memory 15 3 17; 4 ticks, 3 cells",
+    ),
+    (
+        "for (let i = 0; i < 1; i++) { }",
+        99,
+        8,
+        "memory 18 3 20; 8 ticks, 6 cells",
+    ),
+    (
+        "for (let i = 0; i < 1; i++) { }",
+        99,
+        9,
+        "undefined; 13 ticks, 9 cells",
+    ),
+];
+
+/// No `catch` and no `finally` sees a stop.
+static HANDLERS: [(&str, u32, u32, &str); 13] = [
+    (
+        "try { for (;;) { } } catch { 1; } finally { 2; }",
+        20,
+        0,
+        "timeout; 20 ticks, 0 cells",
+    ),
+    (
+        "while (true) { try { nope = 1; } catch { continue; } finally { continue; } }",
+        10,
+        10,
+        "timeout; 10 ticks, 10 cells",
+    ),
+    (
+        "let n = 0; try { n = \"abcdefgh\"; } catch { n = 1; } finally { n = 2; }",
+        99,
+        2,
+        "memory 13 3 14; 9 ticks, 1 cells",
+    ),
+    (
+        "try { 1; } finally { 2; }",
+        5,
+        0,
+        "timeout; 5 ticks, 0 cells",
+    ),
+    (
+        "try { 1; } finally { 2; }",
+        6,
+        0,
+        "timeout; 6 ticks, 0 cells",
+    ),
+    ("try { 1; } finally { 2; }", 8, 0, "1; 8 ticks, 0 cells"),
+    // the scope of a `catch` is made before its block is due
+    (
+        "try { throw 1; } catch (e) { 2; }",
+        5,
+        3,
+        "timeout; 5 ticks, 3 cells",
+    ),
+    (
+        "try { throw 1; } catch (e) { 2; }",
+        99,
+        2,
+        "memory 12 3 14; 5 ticks, 0 cells",
+    ),
+    (
+        "try { throw 1; } catch (e) { 2; } finally { 3; }",
+        99,
+        2,
+        "memory 12 3 14; 5 ticks, 0 cells",
+    ),
+    (
+        "try { throw 1; } catch { 2; }",
+        99,
+        0,
+        "2; 8 ticks, 0 cells",
+    ),
+    // an error that finds no room is not thrown
+    (
+        "try { nope; } catch { }",
+        99,
+        5,
+        "memory 12 6 17; 5 ticks, 0 cells",
+    ),
+    (
+        "try { nope; } catch { }",
+        99,
+        6,
+        "memory 18 4 18; 5 ticks, 6 cells",
+    ),
+    (
+        "try { nope; } catch { }",
+        99,
+        10,
+        "undefined; 6 ticks, 10 cells",
+    ),
+];
+
 /// The rows whose run ended otherwise.
 fn differing(alloc: Global, rows: &[(&str, u32, u32, &str)]) -> Result<String, Fail> {
     let mut wrong = String::new(alloc);
@@ -74,8 +217,24 @@ fn differing(alloc: Global, rows: &[(&str, u32, u32, &str)]) -> Result<String, F
 
 #[test]
 fn a_run_stops_exactly_where_it_should(rt: HostRuntime) -> Result<(), Fail> {
-    let wrong = differing(rt.alloc(), &STOPS)?;
-    assert_eq!(rt; wrong.as_str(), "");
+    for rows in [&STOPS[..], &LOOPS[..], &HANDLERS[..]] {
+        let wrong = differing(rt.alloc(), rows)?;
+        assert_eq!(rt; wrong.as_str(), "");
+    }
+    Ok(())
+}
+
+#[test]
+fn nothing_of_a_finally_is_carried_out_after_a_stop(rt: HostRuntime) -> Result<(), Fail> {
+    let alloc = rt.alloc();
+    let stopped = "let t = 0; try { for (;;) { t = 1; } } catch { t = 2; } finally { t = 3; }";
+    let scripts = scripts_of(alloc, &[stopped, "t"])?;
+    let mut heap = heap_of(alloc, 1_000)?;
+    // the script, the `let` of 2, the `try`, its block and the `for` are 6, and a round takes 5
+    let found = outcome(alloc, &mut heap, &scripts, 0, 16)?;
+    assert_eq!(rt; found.as_str(), "timeout; 16 ticks, 1 cells");
+    let found = outcome(alloc, &mut heap, &scripts, 1, 16)?;
+    assert_eq!(rt; found.as_str(), "1; 3 ticks, 0 cells");
     Ok(())
 }
 
