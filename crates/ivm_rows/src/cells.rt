@@ -30,6 +30,20 @@ fn a_text_that_passes_the_limit_ends_its_isolate(rt: HostRuntime) -> Result<(), 
     Ok(())
 }
 
+// The context 8, the script 4, the binding 1, the array 4 and its 983 elements are 1,000.
+#[test]
+fn an_array_fills_its_isolate_to_the_last_cell(rt: HostRuntime) -> Result<(), Fail> {
+    let alloc = rt.alloc();
+    let filled = "let a = []; while (a.length < 983) { a.push(0); }";
+    let script = format!(in alloc;
+        "isolate a limit=1000\ncontext c a\neval x c : {filled}\nisolate b limit=1000\ncontext d b\neval y d : {filled} a.push(0);\neval z d : 1\n"
+    )?;
+    let report =
+        "c: context\nx: value 983\nd: context\ny: memory charged=1000 asked=1 limit=1000\nz: disposed\n";
+    assert!(rt; tells(&rt, &script, Status::Done, report)?);
+    Ok(())
+}
+
 // How many cells there are, and what is told where 125 contexts have taken 1,000 of them.
 static CONTEXTS: [(u32, &str); 5] = [
     (1000, "memory charged=1000 asked=4 limit=1000"),

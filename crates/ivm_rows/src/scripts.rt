@@ -96,7 +96,7 @@ static REPORTS: [(&str, &str); 16] = [
 ];
 
 // What stands behind `isolate a` and `context c a`, and what is written behind `c: context`.
-static FRAGMENTS: [(&str, &str); 19] = [
+static FRAGMENTS: [(&str, &str); 23] = [
     (
         "eval x c : let n = 2;\neval y c : n * n",
         "x: value undefined\ny: value 4\n",
@@ -179,6 +179,26 @@ static FRAGMENTS: [(&str, &str); 19] = [
     (
         "eval x c timeout=7 : let a = 2; a * 21\neval y c timeout=6 : let b = 2; b * 21\neval z c : b",
         "x: value 42\ny: timeout 6\nz: value 2\n",
+    ),
+    // 1 for the script, 96 for the loop and 3 for the last statement
+    (
+        "eval x c timeout=100 : for (let i = 0; i < 15; i++) { } -7\neval y c timeout=99 : for (let i = 0; i < 15; i++) { } -7\neval z c : 1",
+        "x: value -7\ny: timeout 99\nz: value 1\n",
+    ),
+    // a line terminator ends a `return`, continues a call and may not stand behind `throw`
+    (
+        "eval p c <<E\nfunction f() {\n  return\n  1\n}\nf()\nE\neval q c <<E\nlet k = 5\nlet m = k\n(1)\nE\neval r c <<E\nthrow\n1\nE",
+        "p: value undefined\nq: throw TypeError(\"not a function\")\nr: syntax Unexpected 6\n",
+    ),
+    // no `catch` and no `finally` sees the stop
+    (
+        "eval x c timeout=1000 : let t = 0; try { for (;;) { } } finally { t = 1; }\neval y c : t\neval z c timeout=1000 : while (true) { try { nope; } catch { continue; } }",
+        "x: timeout 1000\ny: value 0\nz: timeout 1000\n",
+    ),
+    // an error that one text keeps is thrown by another
+    (
+        "eval x c : let kept; try { 7 / 2; } catch (e) { kept = e; } 1\neval y c : kept.name\neval z c : throw kept",
+        "x: value 1\ny: value \"RangeError\"\nz: throw RangeError(\"not a whole quotient\")\n",
     ),
     // a million ticks; the isolate goes on, with what was made before the stop
     (

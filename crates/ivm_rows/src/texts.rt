@@ -8,6 +8,8 @@ const RANGE: &str = "throw RangeError(\"number out of range\")";
 
 const KIND: &str = "throw TypeError(\"wrong kind of operand\")";
 
+const UNCOPYABLE: &str = "throw TypeError(\"thrown value not copyable\")";
+
 static NUMBERS: [(&str, &str); 26] = [
     ("let a = 2; a * 21", "value 42"),
     ("", "value undefined"),
@@ -67,6 +69,59 @@ static VALUES: [(&str, &str); 20] = [
     ("let f = 1; f()", "throw TypeError(\"not a function\")"),
 ];
 
+/// Values of loops and of `try`.
+static LOOPS: [(&str, &str); 14] = [
+    ("1; if (false) { }", "value undefined"),
+    ("1; let b = 2;", "value 1"),
+    ("5; while (true) { 7; break; }", "value 7"),
+    ("3; for (;;) { break; }", "value undefined"),
+    ("4; while (true) { 7; { break; } }", "value 7"),
+    (
+        "4; while (true) { 7; if (true) { break; } }",
+        "value undefined",
+    ),
+    ("for (let i = 0; i < 5; i++) { i * i; }", "value 16"),
+    (
+        "let fs = []; for (let i = 0; i < 3; i++) { fs.push(() => i); } fs[0]() + fs[2]()",
+        "value 2",
+    ),
+    ("try { 1; } finally { 2; }", "value 1"),
+    ("try { throw 1; } catch (e) { e + 1; }", "value 2"),
+    (
+        "try { nowhere; } catch (e) { e.message; }",
+        "value \"nowhere is not defined\"",
+    ),
+    (
+        "function f() { f(); } try { f(); } catch (e) { e.message; }",
+        "value \"nesting too deep\"",
+    ),
+    // an error can't pass
+    ("try { nowhere; } catch (e) { e; }", "value undefined"),
+    (
+        "while (true) { try { throw 1; } finally { break; } }",
+        "value undefined",
+    ),
+];
+
+/// What is thrown and not caught.
+static THROWS: [(&str, &str); 9] = [
+    ("throw undefined", "throw undefined"),
+    ("throw -7", "throw -7"),
+    ("throw 'a\\n'", "throw \"a\\n\""),
+    (
+        "for (let i = 0; ; i++) { if (i === 3) { throw i; } }",
+        "throw 3",
+    ),
+    ("try { throw 1; } finally { throw 2; }", "throw 2"),
+    (
+        "try { null.a; } catch (e) { throw e; }",
+        "throw TypeError(\"property of undefined or null\")",
+    ),
+    ("throw { k: 1 }", UNCOPYABLE),
+    ("throw [1]", UNCOPYABLE),
+    ("throw () => 1", UNCOPYABLE),
+];
+
 static REFUSALS: [(&str, &str); 24] = [
     ("1 + 9007199254740992", "NumberOutOfProfile 4"),
     ("1.5", "NumberOutOfProfile 0"),
@@ -87,11 +142,14 @@ static REFUSALS: [(&str, &str); 24] = [
     ("return 1", "StrayReturn 0"),
     ("let x = 1; let x = 2;", "TwiceDeclared 15"),
     // what isn't built, where the first of it stands
-    ("while (true) { }", "Unexpected 0"),
-    ("1; for (;;) { break; }", "Unexpected 3"),
-    ("function f() { throw 2; } 1", "Unexpected 15"),
-    ("1; try { } finally { }", "Unexpected 3"),
     ("1 + new Error('a')", "Unexpected 4"),
+    ("while (false) { new Error('a'); }", "Unexpected 16"),
+    ("try { } catch { new Error('a') }", "Unexpected 16"),
+    (
+        "function f() { throw new TypeError('a'); } 1",
+        "Unexpected 21",
+    ),
+    ("try { }", "Unexpected 7"),
     // an early fault comes first
     ("while (true) { return; }", "StrayReturn 15"),
 ];
@@ -107,6 +165,17 @@ fn numbers_are_exact(rt: HostRuntime) -> Result<(), Fail> {
 #[test]
 fn values_are_told(rt: HostRuntime) -> Result<(), Fail> {
     for (text, wanted) in VALUES {
+        assert_eq!(rt; value_of(&rt, text)?.as_str(), wanted, "at {text}");
+    }
+    Ok(())
+}
+
+#[test]
+fn loops_and_throws_are_told(rt: HostRuntime) -> Result<(), Fail> {
+    for (text, wanted) in LOOPS {
+        assert_eq!(rt; value_of(&rt, text)?.as_str(), wanted, "at {text}");
+    }
+    for (text, wanted) in THROWS {
         assert_eq!(rt; value_of(&rt, text)?.as_str(), wanted, "at {text}");
     }
     Ok(())
