@@ -26,7 +26,7 @@ static THROWS: [(&str, &str); 12] = [
 ];
 
 /// What is caught, and where from.
-static CATCHES: [(&str, &str); 16] = [
+static CATCHES: [(&str, &str); 17] = [
     ("try { throw 7; } catch (e) { e; }", "7; 8 ticks, 3 cells"),
     ("try { throw 7; } catch { 5; }", "5; 8 ticks, 0 cells"),
     ("try { 4; } catch (e) { 5; }", "4; 5 ticks, 0 cells"),
@@ -72,6 +72,11 @@ static CATCHES: [(&str, &str); 16] = [
     (
         "let n = 0; for (let i = 0; i < 3; i++) { try { if (i === 1) { throw 10; } n += 1; } catch (e) { n += e; } } n",
         "12; 63 ticks, 19 cells",
+    ),
+    // the last value of a loop that throws is not that of the `try`
+    (
+        "try { for (let i = 0; ; i === 1 ? nope : i++) 5; } catch { }",
+        "undefined; 22 ticks, 22 cells",
     ),
     // what a `catch` throws goes further out
     (
