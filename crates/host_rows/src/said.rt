@@ -1,13 +1,13 @@
 //! Moves, tasks and events as text.
 
+use anyhow::Error;
 use host_meaning::Move;
 use ivm_text::{Copy, Passed, Units};
 use std::alloc::Global;
-use std::test::Fail;
 use task_history::{Act, Event, Out, Outcome, Task, TaskKind};
 
 /// What a step tells: `post 0: call 1 context`, `ask 0`, `own` or `blocked`.
-pub fn said_of_move(alloc: Global, told: &Move) -> Result<String, Fail> {
+pub fn said_of_move(alloc: Global, told: &Move) -> Result<String, Error> {
     match told {
         Move::Post { isolate, task } => {
             let task = said_of_task(alloc, task)?;
@@ -20,7 +20,7 @@ pub fn said_of_move(alloc: Global, told: &Move) -> Result<String, Fail> {
 }
 
 /// An event: a move as above, `recv 0: call 1 context 2 row 3`, or `settle 1:` and how.
-pub fn said_of_event(alloc: Global, event: &Event) -> Result<String, Fail> {
+pub fn said_of_event(alloc: Global, event: &Event) -> Result<String, Error> {
     match event {
         Event::Post { isolate, task } => {
             let task = said_of_task(alloc, task)?;
@@ -36,14 +36,14 @@ pub fn said_of_event(alloc: Global, event: &Event) -> Result<String, Fail> {
     }
 }
 
-fn said_of_call(alloc: Global, call: Option<u32>) -> Result<String, Fail> {
+fn said_of_call(alloc: Global, call: Option<u32>) -> Result<String, Error> {
     match call {
         Some(number) => Ok(format!(in alloc; "call {number}")?),
         None => Ok(String::from_str(alloc, "no call")?),
     }
 }
 
-fn said_of_task(alloc: Global, task: &Task) -> Result<String, Fail> {
+fn said_of_task(alloc: Global, task: &Task) -> Result<String, Error> {
     let call = said_of_call(alloc, task.call)?;
     let kind = match &task.kind {
         TaskKind::Context => String::from_str(alloc, "context")?,
@@ -61,7 +61,7 @@ fn said_of_task(alloc: Global, task: &Task) -> Result<String, Fail> {
     Ok(format!(in alloc; "{call} {kind} in {budget}")?)
 }
 
-fn said_of_act(alloc: Global, act: &Act) -> Result<String, Fail> {
+fn said_of_act(alloc: Global, act: &Act) -> Result<String, Error> {
     match act {
         Act::Get(key, _) => {
             let key = spelled(alloc, key)?;
@@ -75,11 +75,11 @@ fn said_of_act(alloc: Global, act: &Act) -> Result<String, Fail> {
     }
 }
 
-fn spelled(alloc: Global, units: &Units) -> Result<String, Fail> {
+fn spelled(alloc: Global, units: &Units) -> Result<String, Error> {
     Ok(String::from_utf8(units.to_utf8(alloc)?)?)
 }
 
-fn said_of_out(alloc: Global, out: &Out) -> Result<String, Fail> {
+fn said_of_out(alloc: Global, out: &Out) -> Result<String, Error> {
     match out {
         Out::Reply { call, outcome } => {
             let call = said_of_call(alloc, *call)?;
@@ -90,7 +90,7 @@ fn said_of_out(alloc: Global, out: &Out) -> Result<String, Fail> {
     }
 }
 
-fn said_of_outcome(alloc: Global, outcome: &Outcome) -> Result<String, Fail> {
+fn said_of_outcome(alloc: Global, outcome: &Outcome) -> Result<String, Error> {
     match outcome {
         Outcome::Context { context, row } => Ok(format!(in alloc; "context {context} row {row}")?),
         Outcome::Done => Ok(String::from_str(alloc, "done")?),

@@ -2,24 +2,21 @@
 //!
 //! Contracts see nothing here: it is a program that reads the rows of data/, and whose output tells how many hold.
 //! Rely on: each answer was worked out from the rules in docs/SCRIPTS.md, never from the code's own output.
-//! Over `js_lexer`, `js_parser`, `js_early` and `js_literals`; under no crate.
+//! Over `js_lexer`, `js_parser`, `js_early`, `js_literals` and `row_files`; under no crate.
 //! Begin with `data/faults.rows` and `src/reading.rt`, then `data/statements.rows` and `src/outcome.rt`.
 #![tactic(auto)]
 
 mod copying;
-mod escapes;
 mod next_tokens;
 mod outcome;
 mod parsing;
 mod places;
 mod reading;
-mod rows;
-mod tally;
 mod texts;
 
 use anyhow::Error;
 use outcome::Look;
-use tally::Tally;
+use row_files::Tally;
 
 /// The files of texts, and what is asked of each text.
 const FILES: [(&str, Look); 16] = [

@@ -3,12 +3,10 @@
 //! The letters of a form: `1`, both are one statement; `2`, the form ends and another statement follows; `-`, the token is
 //! refused, `x`, as one out of profile; `>`, what follows the token is refused.
 
-use crate::escapes::text_of;
-use crate::rows::{Row, Table, read_tables, table_named};
-use crate::tally::Tally;
 use anyhow::{Error, bail};
 use js_parser::{SyntaxFault, parse};
 use js_syntax::RefusalKind;
+use row_files::{Row, Table, Tally, read_tables, table_named, text_of};
 use std::alloc::Global;
 
 /// Runs each form of a file with each token of its table `next`.
@@ -61,13 +59,9 @@ fn run_token(
     let before = format!(in alloc; "{}{gap}", text_of(alloc, form.field(0)?)?)?;
     let text = format!(in alloc; "{before}{}", text_of(alloc, token.field(0)?)?)?;
     let found = letter(alloc, &text, before.len());
-    if found == wanted {
-        tally.hold();
-        return Ok(());
-    }
     let found = format!(in alloc; "{found}")?;
     let wanted = format!(in alloc; "{wanted}")?;
-    tally.fail(rt, form, text.as_bytes(), &wanted, &found)
+    tally.check(rt, form, text.as_bytes(), &wanted, &found)
 }
 
 /// The letter of a text in which a token stands at a byte.

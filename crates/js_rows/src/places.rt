@@ -1,10 +1,8 @@
 //! Words and punctuators in each kind of place where one could stand.
 
-use crate::escapes::text_of;
 use crate::outcome::{Look, outcome};
-use crate::rows::{Row, Table, read_tables, table_named};
-use crate::tally::Tally;
 use anyhow::Error;
+use row_files::{Row, Table, Tally, read_tables, table_named, text_of};
 
 /// Runs each word of a list behind each place of a list, and each word as a key.
 pub fn run(rt: &HostRuntime, tally: &mut Tally, file: &str) -> Result<(), Error> {
@@ -103,9 +101,5 @@ fn run_text(
     wanted: &str,
 ) -> Result<(), Error> {
     let found = outcome(rt.alloc(), text.as_bytes(), Look::Taken)?;
-    if found.as_str() == wanted {
-        tally.hold();
-        return Ok(());
-    }
-    tally.fail(rt, row, text.as_bytes(), wanted, &found)
+    tally.check(rt, row, text.as_bytes(), wanted, &found)
 }

@@ -2,11 +2,9 @@
 //!
 //! A row of five has its text by parts: what opens a form, how often, what stands innermost, what closes it as often.
 
-use crate::escapes::{bytes_of, text_of};
 use crate::outcome::{Look, outcome};
-use crate::rows::{Row, read_tables};
-use crate::tally::Tally;
 use anyhow::{Error, bail};
+use row_files::{Row, Tally, bytes_of, read_tables, text_of};
 use std::alloc::Global;
 
 /// Runs each row of a file.

@@ -3,6 +3,7 @@
 use anyhow::{Error, bail};
 use std::alloc::Global;
 use std::fs;
+use std::rt::Files;
 
 /// A row, and where it stands.
 #[derive(Drop)]
@@ -30,7 +31,7 @@ pub struct Table {
 }
 
 /// The tables of a file.
-pub fn read_tables(rt: &HostRuntime, file: &str) -> Result<Vec<Table>, Error> {
+pub fn read_tables<R: Files + AllocGlobal>(rt: &R, file: &str) -> Result<Vec<Table>, Error> {
     let text = match fs::read_to_string(rt, file) {
         Ok(text) => text,
         Err(error) => bail!("{file}: {error}"),

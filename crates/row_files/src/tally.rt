@@ -25,10 +25,26 @@ impl Tally {
         self.held = self.held.saturating_add(1);
     }
 
-    /// One line with the place of the row, what was wanted of the text, and what came.
-    pub fn fail(
+    /// A row holds where what came of a text is what was wanted; else it fails.
+    pub fn check<R: Print + AllocGlobal>(
         &mut self,
-        rt: &HostRuntime,
+        rt: &R,
+        row: &Row,
+        text: &[u8],
+        wanted: &str,
+        found: &str,
+    ) -> Result<(), Error> {
+        if found == wanted {
+            self.hold();
+            return Ok(());
+        }
+        self.fail(rt, row, text, wanted, found)
+    }
+
+    /// One line with the place of the row, what was wanted of the text, and what came.
+    pub fn fail<R: Print + AllocGlobal>(
+        &mut self,
+        rt: &R,
         row: &Row,
         text: &[u8],
         wanted: &str,
@@ -42,13 +58,13 @@ impl Tally {
     }
 
     /// One line with the number of texts of a table, which ends here.
-    pub fn tell_table(&mut self, rt: &HostRuntime, file: &str, table: &str) -> Result<(), Error> {
+    pub fn tell_table(&mut self, rt: &impl Print, file: &str, table: &str) -> Result<(), Error> {
         println!(rt; "{file} {table}: {} rows", self.table)?;
         self.table = 0;
         Ok(())
     }
 
-    pub fn tell_all(&self, rt: &HostRuntime) -> Result<(), Error> {
+    pub fn tell_all(&self, rt: &impl Print) -> Result<(), Error> {
         println!(rt; "{} rows held, {} failed", self.held, self.failed)?;
         Ok(())
     }
