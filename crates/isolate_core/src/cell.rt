@@ -1,14 +1,13 @@
 //! A cell: an isolate's state and the journal that gives it again.
 
-ghost use Rattle.std.specs.Prelude.{◌≡◌, None, IfOk, IsErr, IsTrue, OnOk, OnErr};
+ghost use Rattle.std.specs.Prelude.{◌≡◌, ◌↔◌, None, IfOk, IsErr, IsTrue, OnOk, OnErr};
 ghost use Rattle.isolate_meaning.specs.Replay.{charged, fresh_cell, has_ended, stopped, void, IsKept, MayPerform, Performs};
 ghost use Rattle.isolate_core.specs.Only.{IsOnlyPerformance};
 
 use crate::contents::Contents;
+use crate::fits::fits;
 use crate::ledger::Ledger;
 use crate::life::{Life, carry_out};
-#[cfg(test)]
-use crate::tests::fits;
 use ivm_text::NoMemory;
 use script_texts::texts_are_read_once;
 use std::alloc::Global;
@@ -51,6 +50,14 @@ impl Cell {
             life: Life::Live(Contents::new(alloc, limit)),
             alloc,
         })
+    }
+
+    /// Whether a task may be performed: its values are whole, and the context or the row that it names is there. An
+    /// isolate that has ended takes any, and so does a void cell.
+    pub fn may_perform(&self, task: &Task) -> bool
+        ensures { IsTrue result ↔ MayPerform self.now task.now }
+    {
+        fits(&self.life, task)
     }
 
     /// Performs one task and appends its one entry, with the ticks that it took and the cells that are charged after it:
@@ -119,15 +126,5 @@ impl Cell {
     {
         let Cell { ledger, .. } = self;
         ledger.into_journal()
-    }
-}
-
-#[cfg(test)]
-impl Cell {
-    /// Whether a task may be performed, which makes a context or evaluates a text for its value.
-    pub(crate) fn may_perform(&self, task: &Task) -> bool
-        ensures { IsTrue result → MayPerform self.now task.now }
-    {
-        fits(&self.life, task)
     }
 }

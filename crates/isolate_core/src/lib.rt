@@ -14,11 +14,10 @@ mod contents;
 mod contexts;
 mod done;
 mod entry;
+mod fits;
 mod ledger;
 mod life;
 mod rows;
-#[cfg(test)]
-mod tests;
 mod texts;
 mod values;
 

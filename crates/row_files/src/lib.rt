@@ -2,7 +2,7 @@
 //!
 //! Contracts see nothing here: its callers are programs without a clause.
 //! Rely on: a line that is no row, and a file that is missing, are errors; each row that fails is told.
-//! Over `anyhow`; under `host_rows` and `js_rows`.
+//! Over `anyhow`; under the programs that test by rows.
 //! Begin with `src/rows.rt`; README.md tells the form of a file.
 #![tactic(auto)]
 
