@@ -1,273 +1,167 @@
 //! Members of values: each row with room enough, in a heap of exactly its cells, and with one less.
 
-use crate::member_rows::ROWS;
-use crate::operands::{Operand, is_error, is_string, needs, units, value_of};
-use charged_heap::{Builtin, Fail as MemberFail, Heap, Item, Props, Value, Values};
-use item_list::Items;
-use ivm_text::{ErrorKind, Units};
+use crate::told::told_of;
+use crate::values::{needs, numbers_of, units_of, value_of};
+use anyhow::{Error, bail};
+use charged_heap::{Fail, Heap, Value};
 use js_members::{pop, push, read, write};
+use row_files::{Row, Table, Tally, read_tables};
 use std::alloc::Global;
-use std::test::Fail;
 
-/// A value whose members are asked.
-#[derive(Debug, Clone, Copy)]
-pub enum Base {
-    One(Operand),
-    /// An array of these numbers.
-    Numbers(&'static [i64]),
-    /// An object with these properties.
-    Fields(&'static [(&'static str, i64)]),
-    /// An error with this message, which is the item 0.
-    Error(ErrorKind, &'static str),
-}
+/// An error has these cells beside its message.
+const ERROR: u32 = 4;
 
-/// What is done with a value.
-#[derive(Debug, Clone, Copy)]
-pub enum Action {
-    Read(&'static str),
-    /// The number 7 is written to the key.
-    Write(&'static str),
-    Push(&'static [i64]),
-    Pop,
-}
-
-/// What is wanted of it.
-#[derive(Debug, Clone, Copy)]
-pub enum Answer {
-    Undefined,
-    Number(i64),
-    Text(&'static str),
-    Codes(&'static [u32]),
-    /// The item 0.
-    Message,
-    Function(Builtin),
-    NoObject,
-    PastEnd,
-    NotWritable,
-    BadArgument,
-}
-
-fn numbers(alloc: Global, numbers: &[i64]) -> Result<Values, Fail> {
-    let mut values = Items::new(alloc);
-    for number in numbers {
-        values.push(Value::Num(*number))?;
-    }
-    Ok(values)
-}
-
-/// Makes the value in a heap.
-fn made(alloc: Global, heap: &mut Heap, base: Base) -> Result<Value, Fail> {
-    let item = match base {
-        Base::One(operand) => return value_of(alloc, heap, operand),
-        Base::Numbers(elements) => Item::Array(numbers(alloc, elements)?),
-        Base::Fields(fields) => {
-            let mut props = Props::new(alloc)?;
-            for (key, number) in fields {
-                props.put(alloc, &Units::from_text(alloc, key)?, Value::Num(*number))?;
+/// Runs each table of a file: `one array` goes on with one heap, and each row of another has heaps of its own.
+pub fn run(rt: &HostRuntime, tally: &mut Tally, file: &str) -> Result<(), Error> {
+    let tables = read_tables(rt, file)?;
+    for table in tables.as_slice() {
+        if table.name.as_str() == "one array" {
+            run_array(rt, tally, table)?;
+        } else {
+            for row in table.rows.as_slice() {
+                run_row(rt, tally, row)?;
             }
-            Item::Plain(props)
         }
-        Base::Error(kind, message) => {
-            let text = heap.add(Item::Text(Units::from_text(alloc, message)?))?;
-            Item::Error(kind, text)
-        }
-    };
-    Ok(Value::Item(heap.add(item)?))
+        tally.tell_table(rt, file, &table.name)?;
+    }
+    Ok(())
 }
 
-/// Does the action in a heap.
+/// What a row says of a value: what is done with it, what it gives, and its cells.
+fn run_row(rt: &HostRuntime, tally: &mut Tally, row: &Row) -> Result<(), Error> {
+    let alloc = rt.alloc();
+    let answer = row.field(3)?;
+    let cells = row.field(4)?.parse::<u32>()?;
+    let mut trial = Heap::new(alloc, 1000);
+    value_of(alloc, &mut trial, row.field(0)?)?;
+    let before = trial.charged();
+    let full = before.saturating_add(cells);
+    run_within(rt, tally, row, before.saturating_add(900), answer, full)?;
+    run_within(rt, tally, row, full, answer, full)?;
+    if is_thrown(answer) {
+        let with_message = full.saturating_sub(ERROR);
+        let message = cells.saturating_sub(ERROR);
+        run_short(rt, tally, row, full.saturating_sub(1), with_message, ERROR)?;
+        run_short(
+            rt,
+            tally,
+            row,
+            with_message.saturating_sub(1),
+            before,
+            message,
+        )?;
+    } else if cells > 0 {
+        run_short(rt, tally, row, full.saturating_sub(1), before, cells)?;
+    }
+    if row.field(1)? == "write" && !is_thrown(answer) {
+        run_again(rt, tally, row)?;
+    }
+    Ok(())
+}
+
+/// Whether an answer is an error that is thrown.
+fn is_thrown(answer: &str) -> bool {
+    !answer.starts_with('"') && answer.contains("Error: ")
+}
+
+/// In a heap with this limit a row is refused, where so many cells are charged and so many are asked.
+fn run_short(
+    rt: &HostRuntime,
+    tally: &mut Tally,
+    row: &Row,
+    limit: u32,
+    charged: u32,
+    asked: u32,
+) -> Result<(), Error> {
+    let over = format!(in rt.alloc(); "over {charged} {asked} {limit}")?;
+    run_within(rt, tally, row, limit, &over, charged)
+}
+
+/// In a heap with this limit a row gives what is wanted, and so many cells are charged after it.
+fn run_within(
+    rt: &HostRuntime,
+    tally: &mut Tally,
+    row: &Row,
+    limit: u32,
+    answer: &str,
+    cells: u32,
+) -> Result<(), Error> {
+    let alloc = rt.alloc();
+    let mut heap = Heap::new(alloc, limit);
+    let value = value_of(alloc, &mut heap, row.field(0)?)?;
+    let told = told_of_action(alloc, &mut heap, value, row.field(1)?, row.field(2)?)?;
+    let wanted = format!(in alloc; "{answer} at {cells}")?;
+    let place = format!(in alloc; "in {limit} cells")?;
+    tally.check(rt, row, place.as_bytes(), &wanted, &told)
+}
+
+/// What is written is read again.
+fn run_again(rt: &HostRuntime, tally: &mut Tally, row: &Row) -> Result<(), Error> {
+    let alloc = rt.alloc();
+    let mut heap = Heap::new(alloc, 1000);
+    let value = value_of(alloc, &mut heap, row.field(0)?)?;
+    let _written = done(alloc, &mut heap, value, "write", row.field(2)?)?;
+    let items = heap.len();
+    let given = done(alloc, &mut heap, value, "read", row.field(2)?)?;
+    let told = told_of(alloc, &heap, items, given)?;
+    tally.check(rt, row, b"read again", "7", &told)
+}
+
+/// Rows over one array, in a heap of so many cells: what is done, what it gives, and the cells that are charged then.
+fn run_array(rt: &HostRuntime, tally: &mut Tally, table: &Table) -> Result<(), Error> {
+    let alloc = rt.alloc();
+    let Some((first, rows)) = table.rows.as_slice().split_first() else {
+        bail!("{}: no row", table.name);
+    };
+    let mut heap = Heap::new(alloc, first.field(1)?.parse::<u32>()?);
+    let array = value_of(alloc, &mut heap, first.field(0)?)?;
+    let charged = format!(in alloc; "{}", heap.charged())?;
+    tally.check(rt, first, b"array", first.field(2)?, &charged)?;
+    for row in rows {
+        let told = told_of_action(alloc, &mut heap, array, row.field(0)?, row.field(1)?)?;
+        let wanted = format!(in alloc; "{} at {}", row.field(2)?, row.field(3)?)?;
+        tally.check(rt, row, row.field(0)?.as_bytes(), &wanted, &told)?;
+    }
+    Ok(())
+}
+
+// ---- actions
+
+/// What an action gives, and the cells that are charged after it.
+fn told_of_action(
+    alloc: Global,
+    heap: &mut Heap,
+    base: Value,
+    action: &str,
+    operand: &str,
+) -> Result<String, Error> {
+    let items = heap.len();
+    let given = done(alloc, heap, base, action, operand)?;
+    let told = told_of(alloc, heap, items, given)?;
+    Ok(format!(in alloc; "{told} at {}", heap.charged())?)
+}
+
+/// Does an action with a value: a key is read, the number 7 is written to one, numbers are pushed, or one is popped.
 fn done(
     alloc: Global,
     heap: &mut Heap,
     base: Value,
-    action: Action,
-) -> Result<Result<Value, MemberFail>, Fail> {
+    action: &str,
+    operand: &str,
+) -> Result<Result<Value, Fail>, Error> {
     needs(heap.is_sound_value(base))?;
     Ok(match action {
-        Action::Read(key) => read(alloc, heap, base, &Units::from_text(alloc, key)?),
-        Action::Write(key) => {
-            let key = Units::from_text(alloc, key)?;
+        "read" => read(alloc, heap, base, &units_of(alloc, operand)?),
+        "write" => {
+            let key = units_of(alloc, operand)?;
             write(alloc, heap, base, &key, Value::Num(7))
         }
-        Action::Push(elements) => {
-            let arguments = numbers(alloc, elements)?;
+        "push" => {
+            let arguments = numbers_of(alloc, operand)?;
             needs(heap.are_sound_values(&arguments))?;
             push(alloc, heap, base, arguments.as_slice())
         }
-        Action::Pop => pop(alloc, heap, base),
+        "pop" => pop(alloc, heap, base),
+        _ => bail!("{action}: no action of the rows"),
     })
-}
-
-/// What came of a row: the answer, the heap after it, and the cells that were charged before.
-#[derive(Drop)]
-struct Came {
-    answer: Result<Value, MemberFail>,
-    heap: Heap,
-    before: u32,
-}
-
-/// Does the action in a heap that has so many cells beside those of the value.
-fn outcome_in(alloc: Global, base: Base, action: Action, room: u32) -> Result<Came, Fail> {
-    let mut trial = Heap::new(alloc, 1000);
-    made(alloc, &mut trial, base)?;
-    let before = trial.charged();
-    let mut heap = Heap::new(alloc, u32::saturating_add(before, room));
-    let value = made(alloc, &mut heap, base)?;
-    let answer = done(alloc, &mut heap, value, action)?;
-    Ok(Came {
-        answer,
-        heap,
-        before,
-    })
-}
-
-/// The kind and the message of an error that is wanted.
-const fn error_of(answer: Answer) -> Option<(ErrorKind, &'static str)> {
-    match answer {
-        Answer::NoObject => Some((ErrorKind::TypeError, "property of undefined or null")),
-        Answer::PastEnd => Some((ErrorKind::RangeError, "index past the end")),
-        Answer::NotWritable => Some((ErrorKind::TypeError, "cannot write this member")),
-        Answer::BadArgument => Some((ErrorKind::TypeError, "bad argument")),
-        _ => None,
-    }
-}
-
-/// Whether that is what was wanted.
-fn is_answer(alloc: Global, came: &Came, wanted: Answer) -> Result<bool, Fail> {
-    if let Some((kind, message)) = error_of(wanted) {
-        let message = Units::from_text(alloc, message)?;
-        return Ok(match came.answer {
-            Err(MemberFail::Throw(value)) => is_error(&came.heap, value, kind, &message),
-            _ => false,
-        });
-    }
-    let value = match wanted {
-        Answer::Text(text) => {
-            let text = Units::from_text(alloc, text)?;
-            return Ok(
-                came.answer
-                    .is_ok_and(|value| is_string(&came.heap, value, &text)),
-            );
-        }
-        Answer::Codes(codes) => {
-            let text = units(alloc, codes)?;
-            return Ok(
-                came.answer
-                    .is_ok_and(|value| is_string(&came.heap, value, &text)),
-            );
-        }
-        Answer::Number(number) => Value::Num(number),
-        Answer::Message => Value::Item(0),
-        Answer::Function(function) => Value::Builtin(function),
-        _ => Value::Undefined,
-    };
-    Ok(came.answer == Ok(value))
-}
-
-#[test]
-fn each_row_gives_its_answer_for_its_cells(rt: HostRuntime) -> Result<(), Fail> {
-    for (base, action, wanted, cells) in &ROWS {
-        let came = outcome_in(rt.alloc(), *base, *action, 900)?;
-        let holds = is_answer(rt.alloc(), &came, *wanted)?;
-        assert!(rt; holds, "{base:?} {action:?}");
-        let charge = u32::saturating_add(came.before, *cells);
-        assert_eq!(rt; came.heap.charged(), charge, "{base:?} {action:?}");
-    }
-    Ok(())
-}
-
-#[test]
-fn each_row_fits_to_the_last_cell(rt: HostRuntime) -> Result<(), Fail> {
-    for (base, action, wanted, cells) in &ROWS {
-        let came = outcome_in(rt.alloc(), *base, *action, *cells)?;
-        let holds = is_answer(rt.alloc(), &came, *wanted)?;
-        assert!(rt; holds, "{base:?} {action:?}");
-        assert_eq!(rt;
-            came.heap.charged(),
-            came.heap.limit(),
-            "{base:?} {action:?}"
-        );
-    }
-    Ok(())
-}
-
-/// What a row without its last cell is refused with: an error has its message by then, and lacks a
-/// cell of its own 4.
-const fn refused(before: u32, cells: u32, is_error: bool) -> MemberFail {
-    let made = if is_error { cells.saturating_sub(4) } else { 0 };
-    MemberFail::Over {
-        charged: before.saturating_add(made),
-        asked: cells.saturating_sub(made),
-        limit: before.saturating_add(cells).saturating_sub(1),
-    }
-}
-
-#[test]
-fn each_row_that_lacks_a_cell_is_refused(rt: HostRuntime) -> Result<(), Fail> {
-    let mut count: u32 = 0;
-    for (base, action, wanted, cells) in &ROWS {
-        if *cells > 0 {
-            let came = outcome_in(rt.alloc(), *base, *action, u32::saturating_sub(*cells, 1))?;
-            let refusal = refused(came.before, *cells, error_of(*wanted).is_some());
-            assert_eq!(rt; came.answer, Err(refusal), "{base:?} {action:?}");
-            count = u32::saturating_add(count, 1);
-        }
-    }
-    assert_eq!(rt; count, 49);
-    Ok(())
-}
-
-#[test]
-fn a_message_that_lacks_a_cell_leaves_nothing(rt: HostRuntime) -> Result<(), Fail> {
-    for (base, action, wanted, cells) in &ROWS {
-        if error_of(*wanted).is_some() {
-            let message = u32::saturating_sub(*cells, 4);
-            let came = outcome_in(rt.alloc(), *base, *action, u32::saturating_sub(message, 1))?;
-            let refusal = refused(came.before, message, false);
-            assert_eq!(rt; came.answer, Err(refusal), "{base:?} {action:?}");
-            assert_eq!(rt; came.heap.charged(), came.before, "{base:?} {action:?}");
-        }
-    }
-    Ok(())
-}
-
-#[test]
-fn what_is_written_is_read_again(rt: HostRuntime) -> Result<(), Fail> {
-    for (base, action, wanted, _cells) in &ROWS {
-        if let (Action::Write(key), Answer::Number(_)) = (*action, *wanted) {
-            let mut heap = Heap::new(rt.alloc(), 1000);
-            let value = made(rt.alloc(), &mut heap, *base)?;
-            let _written = done(rt.alloc(), &mut heap, value, *action)?;
-            let again = done(rt.alloc(), &mut heap, value, Action::Read(key))?;
-            assert_eq!(rt; again, Ok(Value::Num(7)), "{base:?} {key:?}");
-        }
-    }
-    Ok(())
-}
-
-#[test]
-fn push_keeps_what_fits_and_pop_gives_its_cell_back(rt: HostRuntime) -> Result<(), Fail> {
-    let mut heap = Heap::new(rt.alloc(), 7);
-    let array = made(rt.alloc(), &mut heap, Base::Numbers(&[5]))?;
-    assert_eq!(rt; heap.charged(), 5);
-    let pushed = done(rt.alloc(), &mut heap, array, Action::Push(&[6, 7, 8]))?;
-    let over = MemberFail::Over {
-        charged: 7,
-        asked: 1,
-        limit: 7,
-    };
-    assert_eq!(rt; pushed, Err(over));
-    for (wanted, charge) in [(7, 6), (6, 5), (5, 4)] {
-        let popped = done(rt.alloc(), &mut heap, array, Action::Pop)?;
-        assert_eq!(rt; popped, Ok(Value::Num(wanted)));
-        assert_eq!(rt; heap.charged(), charge);
-    }
-    let popped = done(rt.alloc(), &mut heap, array, Action::Pop)?;
-    assert_eq!(rt; popped, Ok(Value::Undefined));
-    assert_eq!(rt; heap.charged(), 4);
-    let pushed = done(rt.alloc(), &mut heap, array, Action::Push(&[1, 2, 3]))?;
-    assert_eq!(rt; pushed, Ok(Value::Num(3)));
-    let length = done(rt.alloc(), &mut heap, array, Action::Read("length"))?;
-    assert_eq!(rt; length, Ok(Value::Num(3)));
-    Ok(())
 }

@@ -1,88 +1,89 @@
 //! What has no operator of its own: types, identity, nodes as operators, errors thrown.
 
-use crate::operands::{ADD, LESS, Operand, needs, value_of};
-use charged_heap::{Builtin, Fail as OperatorFail, Heap, Item, Value};
-use ivm_text::{ErrorKind, TypeOf, Units};
-use js_ops::{
-    BinaryOperator, OperandFault, UnaryOperator, make_text, same, throw, truthy, type_of,
-};
-use js_syntax::Kind;
-use std::test::Fail;
+use crate::named::{error_named, fault_named, kind_named};
+use crate::told::told_of;
+use crate::values::{needs, units_of, value_of};
+use anyhow::{Error, bail};
+use charged_heap::Heap;
+use js_ops::{BinaryOperator, UnaryOperator, make_text, same, throw, truthy, type_of};
+use row_files::{Row, Table, Tally, read_tables};
+use std::alloc::Global;
 
-static TYPES: [(Operand, TypeOf, bool); 13] = [
-    (Operand::Undefined, TypeOf::Undefined, false),
-    (Operand::Null, TypeOf::Null, false),
-    (Operand::False, TypeOf::Boolean, false),
-    (Operand::True, TypeOf::Boolean, true),
-    (Operand::Num(0), TypeOf::Number, false),
-    (Operand::Num(-1), TypeOf::Number, true),
-    (Operand::Text(""), TypeOf::Text, false),
-    (Operand::Text("0"), TypeOf::Text, true),
-    (Operand::Object, TypeOf::Object, true),
-    (Operand::Array, TypeOf::Object, true),
-    (Operand::Closure, TypeOf::Function, true),
-    (Operand::Callback, TypeOf::Function, true),
-    (Operand::Builtin(Builtin::String), TypeOf::Function, true),
-];
-
-static BINARY_KINDS: [(Kind, Option<BinaryOperator>); 5] = [
-    (Kind::Add, Some(ADD)),
-    (Kind::Less, Some(LESS)),
-    (Kind::NotSame, Some(BinaryOperator::NotSame)),
-    (Kind::AssignAdd, None),
-    (Kind::And, None),
-];
-
-static UNARY_KINDS: [(Kind, Option<UnaryOperator>); 7] = [
-    (Kind::Not, Some(UnaryOperator::Not)),
-    (Kind::TypeOf, Some(UnaryOperator::TypeOf)),
-    (Kind::PreInc, Some(UnaryOperator::Raise)),
-    (Kind::PostInc, Some(UnaryOperator::Raise)),
-    (Kind::PreDec, Some(UnaryOperator::Lower)),
-    (Kind::PostDec, Some(UnaryOperator::Lower)),
-    (Kind::Void, None),
-];
-
-#[test]
-fn values_have_their_type_and_truth(rt: HostRuntime) -> Result<(), Fail> {
-    for (operand, kind, truth) in &TYPES {
-        let mut heap = Heap::new(rt.alloc(), 100);
-        let value = value_of(rt.alloc(), &mut heap, *operand)?;
-        needs(heap.is_sound_value(value))?;
-        assert_eq!(rt; type_of(&heap, value), *kind, "{operand:?}");
-        assert_eq!(rt; truthy(&heap, value), *truth, "{operand:?}");
-        assert!(rt; same(&heap, value, value), "{operand:?}");
+/// Runs each table of a file, all rows of a table over one heap.
+pub fn run(rt: &HostRuntime, tally: &mut Tally, file: &str) -> Result<(), Error> {
+    let tables = read_tables(rt, file)?;
+    for table in tables.as_slice() {
+        run_table(rt, tally, table)?;
+        tally.tell_table(rt, file, &table.name)?;
     }
     Ok(())
 }
 
-#[test]
-fn nodes_are_the_operators_of_the_table(rt: HostRuntime) {
-    for (kind, operator) in &BINARY_KINDS {
-        assert_eq!(rt; BinaryOperator::of_kind(*kind), *operator, "{kind:?}");
+fn run_table(rt: &HostRuntime, tally: &mut Tally, table: &Table) -> Result<(), Error> {
+    let mut heap = Heap::new(rt.alloc(), 1000);
+    for row in table.rows.as_slice() {
+        let told = told_of_row(rt.alloc(), &mut heap, row)?;
+        let wanted = match row.fields.as_slice().last() {
+            Some(answer) => answer.as_str(),
+            None => "",
+        };
+        tally.check(rt, row, row.field(0)?.as_bytes(), wanted, &told)?;
     }
-    for (kind, operator) in &UNARY_KINDS {
-        assert_eq!(rt; UnaryOperator::of_kind(*kind), *operator, "{kind:?}");
+    Ok(())
+}
+
+/// What a row tells: its first field says of what.
+fn told_of_row(alloc: Global, heap: &mut Heap, row: &Row) -> Result<String, Error> {
+    match row.field(0)? {
+        "value" => told_of_type(alloc, heap, row.field(1)?),
+        "two operands" => {
+            let operator = BinaryOperator::of_kind(kind_named(row.field(1)?)?);
+            Ok(format!(in alloc; "{operator:?}")?)
+        }
+        "one operand" => {
+            let operator = UnaryOperator::of_kind(kind_named(row.field(1)?)?);
+            Ok(format!(in alloc; "{operator:?}")?)
+        }
+        "throw" => thrown(alloc, heap, row),
+        "text" => {
+            let items = heap.len();
+            let given = make_text(heap, units_of(alloc, row.field(1)?)?);
+            let told = told_of(alloc, heap, items, given)?;
+            told_with_items(alloc, heap, told)
+        }
+        "fault" => {
+            let fault = fault_named(row.field(1)?)?;
+            let message = String::from_utf8_lossy(alloc, fault.message())?;
+            Ok(format!(in alloc; "{:?}: {message}", fault.kind())?)
+        }
+        _ => bail!("{}: no such row", row.place),
     }
 }
 
-#[test]
-fn a_thrown_error_stands_behind_its_message(rt: HostRuntime) -> Result<(), Fail> {
-    let mut heap = Heap::new(rt.alloc(), 100);
-    let message = Units::from_text(rt.alloc(), "a is not defined")?;
-    let thrown = throw(&mut heap, ErrorKind::ReferenceError, message);
-    assert_eq!(rt; thrown, Err(OperatorFail::Throw(Value::Item(1))));
-    needs(1 < heap.len())?;
-    assert!(rt; matches!(heap.get(1), Item::Error(ErrorKind::ReferenceError, 0)));
-    // 1 and 4 for sixteen units, and 4
-    assert_eq!(rt; heap.charged(), 9);
-    let text = make_text(&mut heap, Units::new(rt.alloc()));
-    assert_eq!(rt; text, Ok(Value::Item(2)));
-    assert_eq!(rt; heap.charged(), 10);
-    assert_eq!(rt; OperandFault::NotWhole.kind(), ErrorKind::RangeError);
-    assert_eq!(rt;
-        OperandFault::NotWhole.message(),
-        b"not a whole quotient".as_slice()
-    );
-    Ok(())
+/// The type of a value, its truth, and whether it is the same as itself.
+fn told_of_type(alloc: Global, heap: &mut Heap, field: &str) -> Result<String, Error> {
+    let value = value_of(alloc, heap, field)?;
+    needs(heap.is_sound_value(value))?;
+    let kind = type_of(heap, value);
+    let truth = truthy(heap, value);
+    let itself = same(heap, value, value);
+    Ok(format!(in alloc; "{kind:?}, {truth}, {itself}")?)
+}
+
+/// An error that is thrown.
+fn thrown(alloc: Global, heap: &mut Heap, row: &Row) -> Result<String, Error> {
+    let Some(kind) = error_named(row.field(1)?) else {
+        bail!("{}: no constructor of an error", row.place);
+    };
+    let items = heap.len();
+    let given = throw(heap, kind, units_of(alloc, row.field(2)?)?);
+    let told = told_of(alloc, heap, items, given)?;
+    told_with_items(alloc, heap, told)
+}
+
+/// What was made, with the items of the heap after it and their cells.
+fn told_with_items(alloc: Global, heap: &Heap, told: String) -> Result<String, Error> {
+    let items = heap.len();
+    let cells = heap.charged();
+    Ok(format!(in alloc; "{told}, {items} items, {cells} cells")?)
 }
