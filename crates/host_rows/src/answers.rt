@@ -2,19 +2,18 @@
 
 use anyhow::{Error, bail};
 use row_files::Row;
-use task_history::{By, Out, Outcome};
+use task_history::{By, Outcome};
 
-/// The reply of a row: the call that it names, and its outcome.
-pub fn reply_of(row: &Row) -> Result<Out, Error> {
-    let call = match row.field(2)? {
-        "no call" => None,
-        number => Some(number.parse::<u32>()?),
-    };
-    let outcome = outcome_of(row)?;
-    Ok(Out::Reply { call, outcome })
+/// The call that a row's reply names, if it names one.
+pub fn call_of(row: &Row) -> Result<Option<u32>, Error> {
+    match row.field(2)? {
+        "no call" => Ok(None),
+        number => Ok(Some(number.parse::<u32>()?)),
+    }
 }
 
-fn outcome_of(row: &Row) -> Result<Outcome, Error> {
+/// The outcome of a row's reply.
+pub fn outcome_of(row: &Row) -> Result<Outcome, Error> {
     match row.field(3)? {
         "context" => Ok(Outcome::Context {
             context: row.field(4)?.parse::<u32>()?,

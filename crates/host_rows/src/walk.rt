@@ -1,6 +1,6 @@
 //! A walk: a host script, what is done with its host one after another, and the history at its end.
 
-use crate::answers::reply_of;
+use crate::answers::{call_of, outcome_of};
 use crate::said::{said_of_event, said_of_move};
 use crate::script::{numbered, script_of};
 use anyhow::{Error, bail};
@@ -8,7 +8,7 @@ use host_machine::Host;
 use host_script::read_host;
 use row_files::{Row, Table, Tally, read_tables};
 use std::alloc::Global;
-use task_history::History;
+use task_history::{History, Out};
 
 /// Runs each walk of a file.
 pub fn run(rt: &HostRuntime, tally: &mut Tally, file: &str) -> Result<(), Error> {
@@ -94,10 +94,12 @@ fn take_steps(
 /// The host receives the reply of a row, from which no task follows.
 fn receive(rt: &HostRuntime, tally: &mut Tally, host: &mut Host, row: &Row) -> Result<(), Error> {
     let isolate = row.field(1)?.parse::<u32>()?;
-    let reply = reply_of(row)?;
+    let call = call_of(row)?;
+    let outcome = outcome_of(row)?;
     if isolate >= host.script().isolates.len() {
         bail!("{}: no isolate {isolate}", row.place);
     }
+    let reply = Out::Reply { call, outcome };
     let told = match host.receive(isolate, &reply)? {
         Some(_posting) => "a task",
         None => "no task",
