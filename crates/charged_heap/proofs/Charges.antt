@@ -2,7 +2,7 @@
 use Rattle.std.specs.Prelude.{slice_get}
 use Rattle.std.proofs.Common.{◌≡◌, ℕ, ◌+◌, zero, suc, take, ◌≤◌, List, [], ◌∷◌, length, sum_by, arith, is_some, cond, if◌then◌else◌, Some, true, false, refl, ap, sym, add-one}
 use Rattle.std.specs.Map.{keys_of}
-use Rattle.key_order.specs.Keys.{is_key, value_at, with_value}
+use Rattle.ivm_text.specs.Keys.{is_key, value_at, with_value}
 use Rattle.charged_heap.specs.declared.item.Item.{Item}
 use Rattle.charged_heap.specs.declared.item.Item.TheVariants.{Text, Plain, Array, Error, Scope, Closure, Promise, Settler, Reference, Deref, External, Into, Callback, Row, Script}
 use Rattle.std.proofs.lemmas.List.Sums.{sum_by-cons}

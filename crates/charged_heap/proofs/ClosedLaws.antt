@@ -13,7 +13,7 @@ use Rattle.charged_heap.specs.declared.values.Binding.{Binding}
 use Rattle.charged_heap.specs.declared.values.PromiseState.{PromiseState}
 use Rattle.charged_heap.specs.declared.values.PromiseState.TheVariants as state
 use Rattle.charged_heap.specs.declared.values.Reaction.{Reaction}
-use Rattle.key_order.specs.Keys.{is_key, with_value}
+use Rattle.ivm_text.specs.Keys.{is_key, with_value}
 use Rattle.charged_heap.specs.Store.{Store, IsAt, IsPromise, item_at, kind_of, elements, with_all, with_more, with_item, with_property, with_elements, with_place, with_value_of, with_bound, with_binding, with_function, with_reaction, with_state, released}
 use Rattle.charged_heap.specs.Growth.{Grows}
 use Rattle.charged_heap.specs.Closed.{IsClosed, IsSound, IsSoundValue, IsSoundBinding, IsSoundState, IsSoundReaction, IsParentOf, AreSound}

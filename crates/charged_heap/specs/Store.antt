@@ -2,7 +2,7 @@
 -- This project's own; docs/PRICES.md, "Cells". No statement about ECMA-262.
 use Rattle.std.specs.Prelude.{ℕ, ◌<◌, zero, suc, List, [], ◌∷◌, ◌++◌, length, slice_index_or, slice_set, Bool, true, Some, if◌then◌else◌}
 use Rattle.std.specs.List.{list_any}
-use Rattle.key_order.specs.Keys.{is_key, with_value}
+use Rattle.ivm_text.specs.Keys.{is_key, with_value}
 use Rattle.charged_heap.specs.declared.item.Item.{Item}
 use Rattle.charged_heap.specs.declared.item.Item.TheVariants.{Text, Plain, Array, Error, Scope, Closure, Promise, Settler, Reference, Deref, External, Into, Callback, Row, Script}
 use Rattle.charged_heap.specs.declared.item.ItemKind.{ItemKind}

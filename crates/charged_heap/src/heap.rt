@@ -1,7 +1,7 @@
 //! The heap: items within a limit of cells.
 ghost use Rattle.std.specs.Prelude.{◌≡◌, ◌+◌, ◌^◌, ◌<◌, ◌≤◌, ◌++◌, [], ◌∷◌, length, None, IfOk, IsOk, OnOk, OnErr, MatchOption, if◌then◌else◌, is_some, IsSome};
 ghost use Rattle.charged_heap.specs.Price.{price_of, charge_of, property_price};
-ghost use Rattle.key_order.specs.Keys.{value_at};
+ghost use Rattle.ivm_text.specs.Keys.{value_at};
 ghost use Rattle.charged_heap.specs.Store.{Store, IsAt, IsPlain, IsArray, IsScope, IsPromise, IsReference, item_at, properties, elements, place_count, with_more, with_all, with_item, with_property, with_elements, with_place, with_binding, with_function, with_reaction, with_state, released};
 ghost use Rattle.charged_heap.specs.Room.{AsksFor, AsksOnly};
 ghost use Rattle.charged_heap.specs.Growth.{Grows};
@@ -13,8 +13,7 @@ use crate::{
     BINDING_CELLS, Binding, ELEMENT_CELLS, GREATEST_TOLD, HeapFault, Item, PromiseState,
     REACTION_CELLS, Reaction, Value,
 };
-use item_list::CloneWhole;
-use ivm_text::{NoMemory, Units};
+use ivm_text::{CloneWhole, NoMemory, Units};
 use std::alloc::Global;
 use std::marker::Model;
 

@@ -1,7 +1,7 @@
 //! The items of a heap, and how one of them changes.
 ghost use Rattle.std.specs.Prelude.{◌≡◌, ◌+◌, ◌<◌, ◌++◌, ◌∷◌, [], length, OnOk, OnErr, MatchOption, if◌then◌else◌, is_some, IsSome, IsOk};
 ghost use Rattle.charged_heap.specs.Price.{price_of, property_price};
-ghost use Rattle.key_order.specs.Keys.{value_at};
+ghost use Rattle.ivm_text.specs.Keys.{value_at};
 ghost use Rattle.charged_heap.specs.Store.{kind_of, IsPlain, IsArray, IsScope, IsPromise, IsReference, properties, elements, place_count, with_property, with_elements, with_place, with_binding, with_function, with_reaction, with_state, released};
 ghost use Rattle.charged_heap.specs.declared.price.TheConstants.{ELEMENT_CELLS, BINDING_CELLS, REACTION_CELLS};
 

@@ -2,7 +2,7 @@
 //!
 //! Contracts see a `Heap` as a `Store`: the list of its items, the first made first, and its limit.
 //! Rely on: the charge is the sum of the prices and at most the limit; a refused call changes nothing.
-//! Over `item_list`, `ivm_text`, `key_order` and `indexmap`; under all that evaluates, copies or holds values.
+//! Over `ivm_text`, `ivm_text`, `ivm_text` and `indexmap`; under all that evaluates, copies or holds values.
 //! Begin with `specs/Price.antt` and `specs/Store.antt`, then `src/heap.rt`.
 #![tactic(auto)]
 

@@ -1,12 +1,11 @@
 //! The order of an object's own keys.
 ghost use Rattle.std.specs.Prelude.{◌<◌, length, IfOk};
 ghost use Rattle.std.specs.List.{All};
-ghost use Rattle.key_order.specs.KeyOrder as spec;
+ghost use Rattle.ivm_text.specs.KeyOrder as spec;
 
 use crate::Props;
-use ivm_text::NoMemory;
-use key_order::places_in_order;
-pub use key_order::{INDEX_END, index_of};
+use ivm_text::{NoMemory, places_in_order};
+pub use ivm_text::{INDEX_END, index_of};
 use std::alloc::Global;
 
 /// The places of an object's properties in key order: array indices ascending, then the others in

@@ -2,12 +2,11 @@
 ghost use Rattle.std.specs.Prelude.{◌≡◌, ◌<◌, [], ◌++◌, ◌∷◌, length, slice_get, Some, IfOk, OnOk, OnErr, IsOk, IsSome, is_some, false};
 ghost use Rattle.std.specs.Map.{keys_of};
 ghost use Rattle.std.specs.List.{list_any};
-ghost use Rattle.key_order.specs.Keys.{is_key, value_at, with_value, HasDistinctKeys};
+ghost use Rattle.ivm_text.specs.Keys.{is_key, value_at, with_value, HasDistinctKeys};
 
 use crate::Value;
 use indexmap::IndexMap;
-use item_list::CloneWhole;
-use ivm_text::{NoMemory, Units};
+use ivm_text::{CloneWhole, NoMemory, Units};
 use std::alloc::{AllocError, Global};
 use std::marker::Model;
 
@@ -22,7 +21,7 @@ pub struct Props {
 impl Model for Props {
     ghost use Rattle.std.specs.Prelude.{List, ℕ};
     ghost use Rattle.charged_heap.specs.declared.values.Value as script;
-    ghost use Rattle.key_order.specs.Keys.{HasDistinctKeys};
+    ghost use Rattle.ivm_text.specs.Keys.{HasDistinctKeys};
 
     ghost Value = { List (List ℕ × script.Value) };
 
@@ -79,7 +78,7 @@ impl Props {
     }
 
     /// Adds a property whose key isn't there yet, behind all others.
-    #[tactic(auto, using(key_order::proofs::KeyLemmas::with_value_new))]
+    #[tactic(auto, using(ivm_text::proofs::KeyLemmas::with_value_new))]
     pub fn add(&mut self, key: Units, value: Value) -> Result<(), AllocError>
         requires { list_any (is_key key) (keys_of self.old) ≡ false }
         ensures ok { OnOk result (self.new ≡ self.old ++ (key, value) ∷ []) }

@@ -3,8 +3,7 @@ ghost use Rattle.std.specs.Prelude.{◌≡◌, ◌<◌, length, OnOk, OnErr};
 ghost use Rattle.charged_heap.specs.Store.{with_bound, is_noted, with_name};
 
 use crate::{Binding, Bindings, Names, Value};
-use item_list::CloneWhole;
-use ivm_text::Units;
+use ivm_text::{CloneWhole, Units};
 use std::alloc::{AllocError, Global};
 
 /// Gives the binding at the place a value. It takes no memory.

@@ -1,8 +1,7 @@
 //! The values of a script, and the lists in which items keep them.
 
 use crate::Builtin;
-use item_list::Items;
-use ivm_text::Units;
+use ivm_text::{Items, Units};
 
 /// A value of a script. All but primitives and built-in functions stand for an item by its number.
 #[derive(Debug, Clone, Copy, PartialEq, Eq)]

@@ -2,11 +2,9 @@
 ghost use Rattle.std.specs.Prelude.{◌≡◌, OnOk, IsTrue};
 
 use charged_heap::{Bindings, Heap, Item, Props, Value};
-use item_list::Items;
-use ivm_text::Units;
-use js_early::early;
+use ivm_text::{Items, Units};
 use js_parser::parse;
-use js_syntax::{Checked, Scripts};
+use js_syntax::{Checked, Scripts, early};
 use script_eval::run_script;
 use script_meaning::{Completion, StopCause};
 use std::alloc::Global;

@@ -2,7 +2,7 @@
 //!
 //! Contracts see nothing here: it has tests alone.
 //! Rely on: each end, each tick and each cell was worked out by hand from docs/SCRIPTS.md and docs/PRICES.md.
-//! Over `script_eval`, `js_parser` and `js_early`; under no crate.
+//! Over `script_eval`, `js_parser` and `js_syntax`; under no crate.
 //! Begin with `src/rows.rt`, then `src/loops.rt`, `src/throws.rt`, `src/stops.rt` and `src/context.rt`.
 #![tactic(auto)]
 

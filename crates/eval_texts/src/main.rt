@@ -2,7 +2,7 @@
 //!
 //! Contracts see nothing here: it is a program that runs `script_eval::run_script` for scripts/eval-node and bench/eval.
 //! Rely on: it is safe and returns.
-//! Over `script_eval`, `js_parser` and `js_early`; under no crate.
+//! Over `script_eval`, `js_parser` and `js_syntax`; under no crate.
 //! Begin with `tell`, then `src/shown.rt`.
 #![tactic(auto)]
 
@@ -11,9 +11,8 @@ mod shown;
 
 use anyhow::{Error, bail};
 use context::{GLOBAL, NAMES, heap_of};
-use js_early::{EarlyFault, early};
 use js_parser::{SyntaxFault, parse};
-use js_syntax::{Checked, Kind, Refusal, Script, Scripts};
+use js_syntax::{Checked, EarlyFault, Kind, Refusal, Script, Scripts, early};
 use script_eval::run_script;
 use shown::tell_completion;
 use std::io::{BufWriter, Read, Write};

@@ -2,11 +2,11 @@
 use Rattle.std.proofs.Common.{◌≡◌, Bool, true, false, ◌&&◌, ◌||◌, not, if◌then◌else◌, List, [], ◌∷◌, ◌++◌, Option, None, Some, inl, inr, refl, sym, ap, ◌∙◌, subst, append_assoc}
 use Rattle.std.proofs.lemmas.Bool.{cases_Bool}
 use Rattle.js_lexer.specs.declared.token.Token.{Token}
-use Rattle.js_grammar.specs.declared.form.Form.{Form}
-use Rattle.js_grammar.specs.declared.form.Why.TheVariants.{Unexpected}
-use Rattle.js_grammar.specs.Work.{Work, State, going, stuck}
-use Rattle.js_grammar.specs.Rules.{Test, Rule, nothing_more, take, act, inside, ◌▸◌, either, many, refuse, passes, passes_on, after, work_after, take_one, taken, run}
-use Rattle.js_grammar.proofs.Laws.{takes, Eats, Still, run_still, run_eats, take_eats, same_rest, repeated_end}
+use Rattle.parser_rules.specs.declared.form.Form.{Form}
+use Rattle.parser_rules.specs.declared.form.Why.TheVariants.{Unexpected}
+use Rattle.parser_rules.specs.Work.{Work, State, going, stuck}
+use Rattle.parser_rules.specs.Rules.{Test, Rule, nothing_more, take, act, inside, ◌▸◌, either, many, refuse, passes, passes_on, after, work_after, take_one, taken, run}
+use Rattle.parser_rules.proofs.Laws.{takes, Eats, Still, run_still, run_eats, take_eats, same_rest, repeated_end}
 use Rattle.first_bad.proofs.Begins.{both, either_of}
 use Rattle.first_bad.proofs.Front.{rest_of, swap, Front, run_front, no_front, same_front}
 use Rattle.first_bad.proofs.Views.{put}

@@ -3,13 +3,13 @@ use Rattle.std.proofs.Common.{◌≡◌, ℕ, zero, suc, ◌≤◌, Bool, true, 
 use Rattle.std.specs.Prelude.{◌⊎◌}
 use Rattle.std.proofs.lemmas.Bool.{cases_Bool}
 use Rattle.js_lexer.specs.declared.token.Token.{Token}
-use Rattle.js_grammar.specs.declared.class.Class.TheVariants as classes
-use Rattle.js_grammar.specs.declared.form.Form.{Form}
-use Rattle.js_grammar.specs.declared.form.Why.TheVariants.{Unexpected}
-use Rattle.js_grammar.specs.Classes.{class_of}
-use Rattle.js_grammar.specs.Work.{Work, State, going}
-use Rattle.js_grammar.specs.Rules.{Test, Action, Rule, nothing_more, take, act, inside, ◌▸◌, either, many, refuse, sees, sees_other, sees_on_line, sees_word, sees_key, sees_nonzero, sees_passing, after_line, may_end, may_be_parameters, must_be_parameters, passes, passes_on, after, work_after, take_one, refused, left, run}
-use Rattle.js_grammar.proofs.Laws.{takes, run_still, run_eats, same_rest}
+use Rattle.parser_rules.specs.declared.class.Class.TheVariants as classes
+use Rattle.parser_rules.specs.declared.form.Form.{Form}
+use Rattle.parser_rules.specs.declared.form.Why.TheVariants.{Unexpected}
+use Rattle.parser_rules.specs.Classes.{class_of}
+use Rattle.parser_rules.specs.Work.{Work, State, going}
+use Rattle.parser_rules.specs.Rules.{Test, Action, Rule, nothing_more, take, act, inside, ◌▸◌, either, many, refuse, sees, sees_other, sees_on_line, sees_word, sees_key, sees_nonzero, sees_passing, after_line, may_end, may_be_parameters, must_be_parameters, passes, passes_on, after, work_after, take_one, refused, left, run}
+use Rattle.parser_rules.proofs.Laws.{takes, run_still, run_eats, same_rest}
 use Rattle.first_bad.proofs.Begins.{both, either_of, shuts}
 use Rattle.first_bad.proofs.Front.{rest_of, run_front, no_front}
 use Rattle.first_bad.proofs.Views.{put, test_same}

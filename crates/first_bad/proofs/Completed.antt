@@ -1,13 +1,13 @@
 -- What was taken before the token at which reading stands can be gone on with to a whole text.
 use Rattle.std.proofs.Common.{◌≡◌, ℕ, zero, suc, true, List, [], ◌∷◌, ◌++◌, Option, None, refl, sym, subst}
 use Rattle.js_lexer.specs.declared.token.Token.{Token}
-use Rattle.js_grammar.specs.declared.form.Form.{Form}
-use Rattle.js_grammar.specs.declared.form.Form.TheVariants.{Expression, Prefix, Statement, Item, Block, Literal}
-use Rattle.js_grammar.specs.declared.form.Cover.{Cover}
-use Rattle.js_grammar.specs.declared.form.Why.{Why}
-use Rattle.js_grammar.specs.Work.{stuck}
-use Rattle.js_grammar.specs.Rules.{Rule, run}
-use Rattle.js_grammar.specs.Grammar.{within, rule_of, reading, refused_at_limit}
+use Rattle.parser_rules.specs.declared.form.Form.{Form}
+use Rattle.parser_rules.specs.declared.form.Form.TheVariants.{Expression, Prefix, Statement, Item, Block, Literal}
+use Rattle.parser_rules.specs.declared.form.Cover.{Cover}
+use Rattle.parser_rules.specs.declared.form.Why.{Why}
+use Rattle.parser_rules.specs.Work.{stuck}
+use Rattle.parser_rules.specs.Rules.{Rule, run}
+use Rattle.parser_rules.specs.Grammar.{within, rule_of, reading, refused_at_limit}
 use Rattle.first_bad.specs.Viable.{Viable}
 use Rattle.first_bad.proofs.Deeper.{within_deeper}
 use Rattle.first_bad.proofs.FirmTable.{within_firmly}

@@ -1,14 +1,14 @@
 -- One more level changes nothing but refusals for want of levels.
 use Rattle.std.proofs.Common.{◌≡◌, ℕ, zero, suc, ◌≤◌, Bool, true, false, if◌then◌else◌, inl, inr, refl, sym, ap, ◌∙◌, subst, arith}
 use Rattle.std.proofs.lemmas.Bool.{cases_Bool}
-use Rattle.js_grammar.specs.declared.form.Form.{Form}
-use Rattle.js_grammar.specs.declared.form.Why.TheVariants.{Unexpected, TooDeep}
-use Rattle.js_grammar.specs.Classes.{class_of, is_one_of}
-use Rattle.js_grammar.specs.Work.{State, going, stuck}
-use Rattle.js_grammar.specs.Rules.{Test, Rule, nothing_more, take, act, inside, ◌▸◌, either, many, refuse, passes, left, run}
-use Rattle.js_grammar.specs.Grammar.{within, beyond, rule_of, begins}
-use Rattle.js_grammar.proofs.Laws.{takes, Still, run_still}
-use Rattle.js_grammar.proofs.Takes.{within_still}
+use Rattle.parser_rules.specs.declared.form.Form.{Form}
+use Rattle.parser_rules.specs.declared.form.Why.TheVariants.{Unexpected, TooDeep}
+use Rattle.parser_rules.specs.Classes.{class_of, is_one_of}
+use Rattle.parser_rules.specs.Work.{State, going, stuck}
+use Rattle.parser_rules.specs.Rules.{Test, Rule, nothing_more, take, act, inside, ◌▸◌, either, many, refuse, passes, left, run}
+use Rattle.parser_rules.specs.Grammar.{within, beyond, rule_of, begins}
+use Rattle.parser_rules.proofs.Laws.{takes, Still, run_still}
+use Rattle.parser_rules.proofs.Takes.{within_still}
 use Rattle.first_bad.proofs.Begins.{both, within_shuts}
 use Rattle.first_bad.proofs.Turns.{Below, loop, loop_ends, loop_goes, looped, turn_less, within_below}
 use Rattle.first_bad.proofs.FirmRules.{firm_looped}

@@ -1,9 +1,9 @@
 -- What is computed of the rules of expressions, one from the other.
 use Rattle.std.proofs.Common.{◌≡◌, true, false, [], ◌∷◌, Option, refl}
-use Rattle.js_grammar.specs.declared.form.Form.TheVariants.{Expression}
-use Rattle.js_grammar.specs.declared.form.Cover.{Cover}
-use Rattle.js_grammar.specs.Expressions as e
-use Rattle.js_grammar.proofs.Laws.{takes}
+use Rattle.parser_rules.specs.declared.form.Form.TheVariants.{Expression}
+use Rattle.parser_rules.specs.declared.form.Cover.{Cover}
+use Rattle.parser_rules.specs.Expressions as e
+use Rattle.parser_rules.proofs.Laws.{takes}
 use Rattle.first_bad.proofs.Begins.{idle}
 use Rattle.first_bad.proofs.Marks.{paren_open, paren_close, brace_open, brace_close, arrow, every, none}
 use Rattle.first_bad.proofs.Facts.{start, starting, stops, ended, again, finish, follows, form_start, behind_operand, braces, nothing_starts_inside}

@@ -1,11 +1,11 @@
 -- What can be computed of a rule: how it begins, and before what it ends.
 use Rattle.std.proofs.Common.{Bool, true, false, ◌&&◌, ◌||◌, not, if◌then◌else◌, List, [], ◌∷◌, ◌++◌, Option, None, Some}
-use Rattle.js_grammar.specs.declared.form.Form.{Form}
-use Rattle.js_grammar.specs.declared.form.Form.TheVariants.{Expression, Prefix, Statement, Item, Block, Literal}
-use Rattle.js_grammar.specs.declared.form.Cover.{Cover}
-use Rattle.js_grammar.specs.declared.form.Cover.TheVariants as covers
-use Rattle.js_grammar.specs.Rules.{Test, Rule, nothing_more, take, act, inside, ◌▸◌, either, many, refuse, may_be_parameters, must_be_parameters}
-use Rattle.js_grammar.proofs.Laws.{takes}
+use Rattle.parser_rules.specs.declared.form.Form.{Form}
+use Rattle.parser_rules.specs.declared.form.Form.TheVariants.{Expression, Prefix, Statement, Item, Block, Literal}
+use Rattle.parser_rules.specs.declared.form.Cover.{Cover}
+use Rattle.parser_rules.specs.declared.form.Cover.TheVariants as covers
+use Rattle.parser_rules.specs.Rules.{Test, Rule, nothing_more, take, act, inside, ◌▸◌, either, many, refuse, may_be_parameters, must_be_parameters}
+use Rattle.parser_rules.proofs.Laws.{takes}
 use Rattle.first_bad.proofs.Begins.{idle}
 use Rattle.first_bad.proofs.Far.{unit}
 use Rattle.first_bad.proofs.Firm.{blind}

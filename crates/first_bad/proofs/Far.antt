@@ -2,17 +2,17 @@
 use Rattle.std.proofs.Common.{◌≡◌, ℕ, zero, suc, ◌+◌, ◌≤◌, Bool, true, false, ◌&&◌, ◌||◌, if◌then◌else◌, List, [], ◌∷◌, length, Option, None, Some, inl, inr, refl, sym, ap, ◌∙◌, subst, arith, length-append}
 use Rattle.std.specs.Prelude.{◌⊎◌}
 use Rattle.js_lexer.specs.declared.token.Token.{Token}
-use Rattle.js_grammar.specs.declared.class.Class.TheVariants as classes
-use Rattle.js_grammar.specs.declared.form.Form.{Form}
-use Rattle.js_grammar.specs.declared.form.Form.TheVariants.{Expression, Prefix, Statement, Item, Block, Literal}
-use Rattle.js_grammar.specs.declared.form.Why.{Why}
-use Rattle.js_grammar.specs.Classes.{class_of}
-use Rattle.js_grammar.specs.Work.{Work, State, going, stuck}
-use Rattle.js_grammar.specs.Rules.{Test, Rule, nothing_more, take, act, inside, ◌▸◌, either, many, refuse, sees, sees_other, sees_on_line, sees_word, sees_key, sees_nonzero, sees_passing, after_line, may_end, may_be_parameters, must_be_parameters, passes, run}
-use Rattle.js_grammar.specs.Grammar.{within, beyond, refused_at_limit}
-use Rattle.js_grammar.specs.Expressions as e
-use Rattle.js_grammar.proofs.Laws.{Still, run_still}
-use Rattle.js_grammar.proofs.Takes.{within_still}
+use Rattle.parser_rules.specs.declared.class.Class.TheVariants as classes
+use Rattle.parser_rules.specs.declared.form.Form.{Form}
+use Rattle.parser_rules.specs.declared.form.Form.TheVariants.{Expression, Prefix, Statement, Item, Block, Literal}
+use Rattle.parser_rules.specs.declared.form.Why.{Why}
+use Rattle.parser_rules.specs.Classes.{class_of}
+use Rattle.parser_rules.specs.Work.{Work, State, going, stuck}
+use Rattle.parser_rules.specs.Rules.{Test, Rule, nothing_more, take, act, inside, ◌▸◌, either, many, refuse, sees, sees_other, sees_on_line, sees_word, sees_key, sees_nonzero, sees_passing, after_line, may_end, may_be_parameters, must_be_parameters, passes, run}
+use Rattle.parser_rules.specs.Grammar.{within, beyond, refused_at_limit}
+use Rattle.parser_rules.specs.Expressions as e
+use Rattle.parser_rules.proofs.Laws.{Still, run_still}
+use Rattle.parser_rules.proofs.Takes.{within_still}
 use Rattle.first_bad.proofs.Begins.{both, either_of, idle, shuts, run_idle}
 use Rattle.first_bad.proofs.Front.{rest_of, Ends, Front, run_front, within_front}
 use Rattle.first_bad.proofs.Views.{put}

@@ -1,14 +1,14 @@
 -- Where a rule was refused behind some tokens, these tokens can be gone on with.
 use Rattle.std.proofs.Common.{◌≡◌, Bool, true, false, if◌then◌else◌, List, [], ◌∷◌, ◌++◌, Option, None, Some, refl, sym, ap, ◌∙◌, subst, append_assoc}
 use Rattle.js_lexer.specs.declared.token.Token.{Token}
-use Rattle.js_grammar.specs.declared.form.Form.{Form}
-use Rattle.js_grammar.specs.declared.form.Cover.{Cover}
-use Rattle.js_grammar.specs.declared.form.Cover.TheVariants as covers
-use Rattle.js_grammar.specs.declared.form.Why.{Why}
-use Rattle.js_grammar.specs.declared.form.Why.TheVariants.{Unexpected}
-use Rattle.js_grammar.specs.Work.{Work, State, going, stuck}
-use Rattle.js_grammar.specs.Rules.{Test, Rule, ◌▸◌, passes_on, take_one, taken, run}
-use Rattle.js_grammar.proofs.Laws.{run_still}
+use Rattle.parser_rules.specs.declared.form.Form.{Form}
+use Rattle.parser_rules.specs.declared.form.Cover.{Cover}
+use Rattle.parser_rules.specs.declared.form.Cover.TheVariants as covers
+use Rattle.parser_rules.specs.declared.form.Why.{Why}
+use Rattle.parser_rules.specs.declared.form.Why.TheVariants.{Unexpected}
+use Rattle.parser_rules.specs.Work.{Work, State, going, stuck}
+use Rattle.parser_rules.specs.Rules.{Test, Rule, ◌▸◌, passes_on, take_one, taken, run}
+use Rattle.parser_rules.proofs.Laws.{run_still}
 use Rattle.first_bad.proofs.Begins.{idle, run_idle}
 use Rattle.first_bad.proofs.Front.{rest_of, run_front}
 use Rattle.first_bad.proofs.Views.{put}

@@ -4,15 +4,15 @@ use Rattle.std.specs.Prelude.{◌⊎◌}
 use Rattle.std.proofs.lemmas.Bool.{cases_Bool}
 use Rattle.js_syntax.specs.declared.kind.Kind.TheVariants as kinds
 use Rattle.js_lexer.specs.declared.token.Token.{Token}
-use Rattle.js_grammar.specs.declared.class.Class.{Class}
-use Rattle.js_grammar.specs.declared.class.Class.TheVariants as classes
-use Rattle.js_grammar.specs.declared.form.Cover.{Cover}
-use Rattle.js_grammar.specs.declared.form.Why.{Why}
-use Rattle.js_grammar.specs.declared.form.Why.TheVariants.{Unexpected}
-use Rattle.js_grammar.specs.Classes.{class_of, is_one_of}
-use Rattle.js_grammar.specs.Work.{Work, State, going, stuck}
-use Rattle.js_grammar.specs.Rules.{Test, Action, sees, sees_other, sees_on_line, sees_word, sees_key, sees_nonzero, sees_passing, after_line, may_end, may_be_parameters, must_be_parameters, passes, passes_on, is_line, after, work_after, take_one, taken, refused, prefix_kind, operator_kind}
-use Rattle.js_grammar.proofs.Laws.{Still, same_rest}
+use Rattle.parser_rules.specs.declared.class.Class.{Class}
+use Rattle.parser_rules.specs.declared.class.Class.TheVariants as classes
+use Rattle.parser_rules.specs.declared.form.Cover.{Cover}
+use Rattle.parser_rules.specs.declared.form.Why.{Why}
+use Rattle.parser_rules.specs.declared.form.Why.TheVariants.{Unexpected}
+use Rattle.parser_rules.specs.Classes.{class_of, is_one_of}
+use Rattle.parser_rules.specs.Work.{Work, State, going, stuck}
+use Rattle.parser_rules.specs.Rules.{Test, Action, sees, sees_other, sees_on_line, sees_word, sees_key, sees_nonzero, sees_passing, after_line, may_end, may_be_parameters, must_be_parameters, passes, passes_on, is_line, after, work_after, take_one, taken, refused, prefix_kind, operator_kind}
+use Rattle.parser_rules.proofs.Laws.{Still, same_rest}
 use Rattle.first_bad.proofs.Front.{rest_of, swap, Front, no_front, same_front}
 use Rattle.first_bad.proofs.Views.{act_kinds, put, test_same}
 use Rattle.first_bad.proofs.Words.{is_new, class_fixed, out, new_out, new_or_foreign}

@@ -1,12 +1,12 @@
 -- Each rule of the table is firm.
 use Rattle.std.proofs.Common.{◌≡◌, ℕ, zero, suc, true, refl}
-use Rattle.js_grammar.specs.declared.form.Form.{Form}
-use Rattle.js_grammar.specs.declared.form.Form.TheVariants.{Expression, Prefix, Statement, Item, Block, Literal}
-use Rattle.js_grammar.specs.declared.class.Class.TheVariants as classes
-use Rattle.js_grammar.specs.Grammar.{rule_of, within}
-use Rattle.js_grammar.specs.Expressions as e
-use Rattle.js_grammar.specs.Statements as s
-use Rattle.js_grammar.specs.Literals as l
+use Rattle.parser_rules.specs.declared.form.Form.{Form}
+use Rattle.parser_rules.specs.declared.form.Form.TheVariants.{Expression, Prefix, Statement, Item, Block, Literal}
+use Rattle.parser_rules.specs.declared.class.Class.TheVariants as classes
+use Rattle.parser_rules.specs.Grammar.{rule_of, within}
+use Rattle.parser_rules.specs.Expressions as e
+use Rattle.parser_rules.specs.Statements as s
+use Rattle.parser_rules.specs.Literals as l
 use Rattle.first_bad.proofs.FirmRules.{firm, Firmly, run_firm, beyond_firm}
 use Rattle.first_bad.proofs.Firm.{Firm}
 use Rattle.first_bad.proofs.Begins.{within_shuts}

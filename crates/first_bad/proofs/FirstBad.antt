@@ -1,13 +1,13 @@
 -- Where reading stands, it stands at the first bad token.
 use Rattle.std.proofs.Common.{◌≡◌, ℕ, suc, ◌<◌, Bool, true, List, [], ◌∷◌, ◌++◌, length, refl, sym, ap, ◌∙◌, subst, append_assoc, arith, length-append}
 use Rattle.js_lexer.specs.declared.token.Token.{Token}
-use Rattle.js_grammar.specs.declared.form.Why.{Why}
-use Rattle.js_grammar.specs.declared.form.Why.TheVariants.{Unexpected, TooDeep}
-use Rattle.js_grammar.specs.Work.{State, going, stuck}
-use Rattle.js_grammar.specs.Rules.{Rule}
-use Rattle.js_grammar.specs.Grammar.{within, reading, at_start}
-use Rattle.js_grammar.specs.Statements.{script}
-use Rattle.js_grammar.specs.Literals.{literal_text, arguments_text}
+use Rattle.parser_rules.specs.declared.form.Why.{Why}
+use Rattle.parser_rules.specs.declared.form.Why.TheVariants.{Unexpected, TooDeep}
+use Rattle.parser_rules.specs.Work.{State, going, stuck}
+use Rattle.parser_rules.specs.Rules.{Rule}
+use Rattle.parser_rules.specs.Grammar.{within, reading, at_start}
+use Rattle.parser_rules.specs.Statements.{script}
+use Rattle.parser_rules.specs.Literals.{literal_text, arguments_text}
 use Rattle.first_bad.specs.Viable.{Viable}
 use Rattle.first_bad.specs.FirstBad.{IsRefused, OpensTooMany, StandsAtFirstBad}
 use Rattle.first_bad.proofs.Front.{rest_of, run_front, within_front, same_tail}

@@ -1,10 +1,10 @@
 -- What is computed of the rules of forms and texts.
 use Rattle.std.proofs.Common.{◌≡◌, true, false, [], ◌∷◌, Option, None, refl}
-use Rattle.js_grammar.specs.declared.form.Form.TheVariants.{Expression, Prefix, Statement, Item, Block, Literal}
-use Rattle.js_grammar.specs.declared.form.Cover.{Cover}
-use Rattle.js_grammar.specs.Expressions as e
-use Rattle.js_grammar.specs.Statements as s
-use Rattle.js_grammar.specs.Literals as l
+use Rattle.parser_rules.specs.declared.form.Form.TheVariants.{Expression, Prefix, Statement, Item, Block, Literal}
+use Rattle.parser_rules.specs.declared.form.Cover.{Cover}
+use Rattle.parser_rules.specs.Expressions as e
+use Rattle.parser_rules.specs.Statements as s
+use Rattle.parser_rules.specs.Literals as l
 use Rattle.first_bad.proofs.Facts.{start, starting, again, finish, follows, form_start, braces, nothing_starts_inside}
 use Rattle.first_bad.proofs.ExpressionFacts.{conditional_takes, conditional_stops, conditional_again, conditional_start, conditional_finish, conditional_firm, assignment_takes, assignment_stops, assignment_again, assignment_start, assignment_finish, assignment_firm, arrow_takes, arrow_stops, arrow_again, arrow_start, arrow_finish, arrow_firm, covered_takes, covered_stops, covered_again, covered_finish, covered_firm, primary_takes, primary_idle, primary_ended, primary_stops, primary_again, primary_finish, primary_firm, covered_begin, arrow_begin, primary_begin, conditional_begin, assignment_begin, operand_takes, operand_ended, operand_stops, operand_again, operand_start, operand_finish, operand_firm}
 

@@ -2,12 +2,12 @@
 use Rattle.std.proofs.Common.{◌≡◌, ℕ, zero, suc, Bool, true, false, if◌then◌else◌, List, [], ◌∷◌, ◌++◌, length, inl, inr, refl, sym, ap, ◌∙◌, append_assoc, arith, length-append}
 use Rattle.std.proofs.lemmas.Bool.{cases_Bool}
 use Rattle.js_lexer.specs.declared.token.Token.{Token}
-use Rattle.js_grammar.specs.declared.form.Form.{Form}
-use Rattle.js_grammar.specs.declared.form.Why.TheVariants.{Unexpected}
-use Rattle.js_grammar.specs.Work.{Work, State, going, stuck}
-use Rattle.js_grammar.specs.Rules.{Test, Action, Rule, nothing_more, take, act, inside, ◌▸◌, either, many, refuse, passes, passes_on, after, take_one, taken, refused, left, turns, repeated, run}
-use Rattle.js_grammar.specs.Grammar.{within, beyond, rule_of}
-use Rattle.js_grammar.proofs.Laws.{same_rest}
+use Rattle.parser_rules.specs.declared.form.Form.{Form}
+use Rattle.parser_rules.specs.declared.form.Why.TheVariants.{Unexpected}
+use Rattle.parser_rules.specs.Work.{Work, State, going, stuck}
+use Rattle.parser_rules.specs.Rules.{Test, Action, Rule, nothing_more, take, act, inside, ◌▸◌, either, many, refuse, passes, passes_on, after, take_one, taken, refused, left, turns, repeated, run}
+use Rattle.parser_rules.specs.Grammar.{within, beyond, rule_of}
+use Rattle.parser_rules.proofs.Laws.{same_rest}
 
 -- the tokens that are left, or that reading stands at
 abbrev pub rest_of : State → List Token

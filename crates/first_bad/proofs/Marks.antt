@@ -4,11 +4,11 @@ use Rattle.first_bad.proofs.Begins.{both}
 use Rattle.js_lexer.specs.declared.token.Token.{Token}
 use Rattle.js_lexer.specs.declared.token.TokenKind.{TokenKind}
 use Rattle.js_lexer.specs.declared.token.TokenKind.TheVariants as tokens
-use Rattle.js_grammar.specs.declared.class.Class.{Class}
-use Rattle.js_grammar.specs.declared.class.Class.TheVariants as classes
-use Rattle.js_grammar.specs.declared.form.Cover.{Cover}
-use Rattle.js_grammar.specs.Classes.{class_of, is_one_of, class_in, words, foreign_words, punctuators}
-use Rattle.js_grammar.specs.Rules.{Test, sees, sees_other, sees_on_line, sees_word, sees_key, sees_nonzero, sees_passing, after_line, may_end, may_be_parameters, must_be_parameters, passes_on, is_line, is_names, is_parameters, kind_passes, is_word_kind, is_key_kind, is_nonzero, is_passing, passing_words}
+use Rattle.parser_rules.specs.declared.class.Class.{Class}
+use Rattle.parser_rules.specs.declared.class.Class.TheVariants as classes
+use Rattle.parser_rules.specs.declared.form.Cover.{Cover}
+use Rattle.parser_rules.specs.Classes.{class_of, is_one_of, class_in, words, foreign_words, punctuators}
+use Rattle.parser_rules.specs.Rules.{Test, sees, sees_other, sees_on_line, sees_word, sees_key, sees_nonzero, sees_passing, after_line, may_end, may_be_parameters, must_be_parameters, passes_on, is_line, is_names, is_parameters, kind_passes, is_word_kind, is_key_kind, is_nonzero, is_passing, passing_words}
 
 -- the end, or a token of one's own
 pub data Mark : Type 0 where

@@ -4,18 +4,18 @@ use Rattle.std.specs.Prelude.{nat_eq}
 use Rattle.std.specs.List.{list_any, list_all}
 use Rattle.std.proofs.lemmas.Bool.{cases_Bool, eqb-true}
 use Rattle.js_lexer.specs.declared.token.Token.{Token}
-use Rattle.js_grammar.specs.declared.class.Class.{Class}
-use Rattle.js_grammar.specs.declared.form.Form.{Form}
-use Rattle.js_grammar.specs.declared.form.Form.TheVariants.{Expression, Prefix, Statement, Item, Block, Literal}
-use Rattle.js_grammar.specs.declared.form.Why.TheVariants.{Unexpected, TooDeep}
-use Rattle.js_grammar.specs.Classes.{class_of, is_one_of, code}
-use Rattle.js_grammar.specs.Work.{Work, State, going, stuck}
-use Rattle.js_grammar.specs.Rules.{Test, Rule, nothing_more, take, act, inside, ◌▸◌, either, many, refuse, sees, sees_other, sees_on_line, sees_word, sees_key, sees_nonzero, sees_passing, after_line, may_end, may_be_parameters, must_be_parameters, passes, passes_on, after, work_after, take_one, taken, refused, left, run}
-use Rattle.js_grammar.specs.Grammar.{within, beyond, rule_of, begins}
-use Rattle.js_grammar.specs.Expressions as e
-use Rattle.js_grammar.specs.Statements as s
-use Rattle.js_grammar.specs.Literals as l
-use Rattle.js_grammar.proofs.Laws.{takes, Still, run_still}
+use Rattle.parser_rules.specs.declared.class.Class.{Class}
+use Rattle.parser_rules.specs.declared.form.Form.{Form}
+use Rattle.parser_rules.specs.declared.form.Form.TheVariants.{Expression, Prefix, Statement, Item, Block, Literal}
+use Rattle.parser_rules.specs.declared.form.Why.TheVariants.{Unexpected, TooDeep}
+use Rattle.parser_rules.specs.Classes.{class_of, is_one_of, code}
+use Rattle.parser_rules.specs.Work.{Work, State, going, stuck}
+use Rattle.parser_rules.specs.Rules.{Test, Rule, nothing_more, take, act, inside, ◌▸◌, either, many, refuse, sees, sees_other, sees_on_line, sees_word, sees_key, sees_nonzero, sees_passing, after_line, may_end, may_be_parameters, must_be_parameters, passes, passes_on, after, work_after, take_one, taken, refused, left, run}
+use Rattle.parser_rules.specs.Grammar.{within, beyond, rule_of, begins}
+use Rattle.parser_rules.specs.Expressions as e
+use Rattle.parser_rules.specs.Statements as s
+use Rattle.parser_rules.specs.Literals as l
+use Rattle.parser_rules.proofs.Laws.{takes, Still, run_still}
 use Rattle.first_bad.proofs.Begins.{both, either_of, idle, run_idle}
 use Rattle.first_bad.proofs.Front.{rest_of, Front, run_front, within_front}
 use Rattle.first_bad.proofs.Far.{ends_shorter}

@@ -5,13 +5,13 @@ use Rattle.js_syntax.specs.declared.kind.Kind.TheVariants as kinds
 use Rattle.js_lexer.specs.declared.token.Token.{Token}
 use Rattle.js_lexer.specs.declared.token.TokenKind.{TokenKind}
 use Rattle.js_lexer.specs.declared.token.TokenKind.TheVariants as tokens
-use Rattle.js_grammar.specs.declared.class.Class.TheVariants as classes
-use Rattle.js_grammar.specs.declared.form.Why.{Why}
-use Rattle.js_grammar.specs.declared.form.Why.TheVariants.{Unexpected, TooDeep}
-use Rattle.js_grammar.specs.Classes.{class_of, is_word_token}
-use Rattle.js_grammar.specs.Work.{Work, State, going, stuck, fresh}
-use Rattle.js_grammar.specs.Rules.{Rule, run}
-use Rattle.js_grammar.specs.Grammar.{within, reading, at_start}
+use Rattle.parser_rules.specs.declared.class.Class.TheVariants as classes
+use Rattle.parser_rules.specs.declared.form.Why.{Why}
+use Rattle.parser_rules.specs.declared.form.Why.TheVariants.{Unexpected, TooDeep}
+use Rattle.parser_rules.specs.Classes.{class_of, is_word_token}
+use Rattle.parser_rules.specs.Work.{Work, State, going, stuck, fresh}
+use Rattle.parser_rules.specs.Rules.{Rule, run}
+use Rattle.parser_rules.specs.Grammar.{within, reading, at_start}
 use Rattle.first_bad.specs.Viable.{Reads, Viable}
 use Rattle.first_bad.specs.FirstBad.{IsOtherNew}
 use Rattle.first_bad.proofs.Begins.{both}

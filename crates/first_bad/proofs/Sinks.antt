@@ -2,15 +2,15 @@
 use Rattle.std.proofs.Common.{◌≡◌, ℕ, zero, suc, Bool, true, false, if◌then◌else◌, List, [], ◌∷◌, inl, inr, refl, sym, ap, ◌∙◌}
 use Rattle.std.proofs.lemmas.Bool.{cases_Bool}
 use Rattle.js_lexer.specs.declared.token.Token.{Token}
-use Rattle.js_grammar.specs.declared.class.Class.{Class}
-use Rattle.js_grammar.specs.declared.class.Class.TheVariants as classes
-use Rattle.js_grammar.specs.declared.form.Form.{Form}
-use Rattle.js_grammar.specs.declared.form.Form.TheVariants.{Expression, Prefix, Statement, Item, Block, Literal}
-use Rattle.js_grammar.specs.declared.form.Why.TheVariants.{Unexpected, TooDeep}
-use Rattle.js_grammar.specs.Classes.{class_of, is_one_of}
-use Rattle.js_grammar.specs.Work.{Work, State, going, stuck}
-use Rattle.js_grammar.specs.Rules.{Test, Action, Rule, nothing_more, take, act, inside, ◌▸◌, either, many, refuse, passes, passes_on, after, take_one, taken, refused, left, turns, repeated, run}
-use Rattle.js_grammar.specs.Grammar.{within, beyond, rule_of, begins}
+use Rattle.parser_rules.specs.declared.class.Class.{Class}
+use Rattle.parser_rules.specs.declared.class.Class.TheVariants as classes
+use Rattle.parser_rules.specs.declared.form.Form.{Form}
+use Rattle.parser_rules.specs.declared.form.Form.TheVariants.{Expression, Prefix, Statement, Item, Block, Literal}
+use Rattle.parser_rules.specs.declared.form.Why.TheVariants.{Unexpected, TooDeep}
+use Rattle.parser_rules.specs.Classes.{class_of, is_one_of}
+use Rattle.parser_rules.specs.Work.{Work, State, going, stuck}
+use Rattle.parser_rules.specs.Rules.{Test, Action, Rule, nothing_more, take, act, inside, ◌▸◌, either, many, refuse, passes, passes_on, after, take_one, taken, refused, left, turns, repeated, run}
+use Rattle.parser_rules.specs.Grammar.{within, beyond, rule_of, begins}
 use Rattle.first_bad.proofs.Sunk.{foreign_begins}
 
 -- reading stands for want of levels only at what begins a form

@@ -2,11 +2,11 @@
 use Rattle.std.proofs.Common.{◌≡◌, Bool, true, false, ◌&&◌, not, if◌then◌else◌, List, [], ◌∷◌, ◌++◌, Option, None, Some, inl, inr, refl, sym, ap, ◌∙◌, subst}
 use Rattle.std.proofs.lemmas.Bool.{cases_Bool}
 use Rattle.js_lexer.specs.declared.token.Token.{Token}
-use Rattle.js_grammar.specs.declared.form.Form.{Form}
-use Rattle.js_grammar.specs.declared.form.Cover.{Cover}
-use Rattle.js_grammar.specs.Work.{Work, State, going}
-use Rattle.js_grammar.specs.Rules.{Test, Action, Rule, nothing_more, take, act, inside, ◌▸◌, either, many, refuse, passes, passes_on, after, work_after, take_one, refused, run}
-use Rattle.js_grammar.proofs.Laws.{same_rest, repeated_end}
+use Rattle.parser_rules.specs.declared.form.Form.{Form}
+use Rattle.parser_rules.specs.declared.form.Cover.{Cover}
+use Rattle.parser_rules.specs.Work.{Work, State, going}
+use Rattle.parser_rules.specs.Rules.{Test, Action, Rule, nothing_more, take, act, inside, ◌▸◌, either, many, refuse, passes, passes_on, after, work_after, take_one, refused, run}
+use Rattle.parser_rules.proofs.Laws.{same_rest, repeated_end}
 use Rattle.first_bad.proofs.Begins.{both}
 use Rattle.first_bad.proofs.Views.{put}
 use Rattle.first_bad.proofs.Marks.{Mark, is_edge, token_of, ahead, tokens_of, Shows, Knows, seen, seen_right, Marks, marks, has, has_marks, every, none, has_meet}

@@ -2,17 +2,17 @@
 use Rattle.std.proofs.Common.{◌≡◌, ℕ, zero, suc, ◌≤◌, Bool, true, false, ◌&&◌, ◌||◌, not, if◌then◌else◌, List, [], ◌∷◌, ◌++◌, codes, bytes_eq, inl, inr, refl, sym, ap, ◌∙◌, subst, append_assoc, arith}
 use Rattle.std.proofs.lemmas.Bool.{cases_Bool}
 use Rattle.js_lexer.specs.declared.token.Token.{Token}
-use Rattle.js_grammar.specs.declared.class.Class.{Class}
-use Rattle.js_grammar.specs.declared.class.Class.TheVariants as classes
-use Rattle.js_grammar.specs.declared.form.Form.{Form}
-use Rattle.js_grammar.specs.declared.form.Form.TheVariants.{Expression, Prefix, Statement, Item, Block, Literal}
-use Rattle.js_grammar.specs.declared.form.Why.{Why}
-use Rattle.js_grammar.specs.declared.form.Why.TheVariants.{Unexpected, TooDeep}
-use Rattle.js_grammar.specs.Classes.{class_of, is_one_of, begins_construction, is_among, constructors, is_punct_token, is_word_token}
-use Rattle.js_grammar.specs.Work.{Work, State, going, stuck}
-use Rattle.js_grammar.specs.Rules.{Test, Rule, nothing_more, take, act, inside, ◌▸◌, either, many, refuse, passes, passes_on, take_one, taken, refused, after, work_after, left, run}
-use Rattle.js_grammar.specs.Grammar.{within, beyond, rule_of, begins}
-use Rattle.js_grammar.proofs.Laws.{takes, Still, run_still}
+use Rattle.parser_rules.specs.declared.class.Class.{Class}
+use Rattle.parser_rules.specs.declared.class.Class.TheVariants as classes
+use Rattle.parser_rules.specs.declared.form.Form.{Form}
+use Rattle.parser_rules.specs.declared.form.Form.TheVariants.{Expression, Prefix, Statement, Item, Block, Literal}
+use Rattle.parser_rules.specs.declared.form.Why.{Why}
+use Rattle.parser_rules.specs.declared.form.Why.TheVariants.{Unexpected, TooDeep}
+use Rattle.parser_rules.specs.Classes.{class_of, is_one_of, begins_construction, is_among, constructors, is_punct_token, is_word_token}
+use Rattle.parser_rules.specs.Work.{Work, State, going, stuck}
+use Rattle.parser_rules.specs.Rules.{Test, Rule, nothing_more, take, act, inside, ◌▸◌, either, many, refuse, passes, passes_on, take_one, taken, refused, after, work_after, left, run}
+use Rattle.parser_rules.specs.Grammar.{within, beyond, rule_of, begins}
+use Rattle.parser_rules.proofs.Laws.{takes, Still, run_still}
 use Rattle.first_bad.proofs.Begins.{both, either_of, shuts}
 use Rattle.first_bad.proofs.Front.{rest_of, swap, Front, run_front, no_front, same_front}
 use Rattle.first_bad.proofs.Views.{put, test_same}

@@ -1,11 +1,11 @@
 -- Loops: a turn, and the loop that goes on; each turn takes a token.
 use Rattle.std.proofs.Common.{◌≡◌, ℕ, ◌<◌, Bool, true, false, ◌&&◌}
-use Rattle.js_grammar.specs.declared.form.Form.{Form}
-use Rattle.js_grammar.specs.Work.{State}
-use Rattle.js_grammar.specs.Rules.{Test, Rule, nothing_more, take, act, inside, ◌▸◌, either, many, refuse, passes, left, repeated, run}
-use Rattle.js_grammar.specs.Grammar.{within}
-use Rattle.js_grammar.proofs.Laws.{takes, Inside, Still, turning, repeated_go, repeated_end}
-use Rattle.js_grammar.proofs.Takes.{within_takes, within_still}
+use Rattle.parser_rules.specs.declared.form.Form.{Form}
+use Rattle.parser_rules.specs.Work.{State}
+use Rattle.parser_rules.specs.Rules.{Test, Rule, nothing_more, take, act, inside, ◌▸◌, either, many, refuse, passes, left, repeated, run}
+use Rattle.parser_rules.specs.Grammar.{within}
+use Rattle.parser_rules.proofs.Laws.{takes, Inside, Still, turning, repeated_go, repeated_end}
+use Rattle.parser_rules.proofs.Takes.{within_takes, within_still}
 use Rattle.first_bad.proofs.Front.{Front, run_front, within_front}
 
 -- what the laws of rules ask of what stands further inside

@@ -2,11 +2,11 @@
 use Rattle.std.proofs.Common.{◌≡◌, ℕ, List, [], ◌∷◌, Option, None, Some, refl, sym, ap, ◌∙◌}
 use Rattle.js_syntax.specs.declared.kind.Kind.{Kind}
 use Rattle.js_lexer.specs.declared.token.Token.{Token}
-use Rattle.js_grammar.specs.declared.class.Class.{Class}
-use Rattle.js_grammar.specs.declared.form.Cover.{Cover}
-use Rattle.js_grammar.specs.Classes.{class_of}
-use Rattle.js_grammar.specs.Work.{Work, opened, preceded, Part, Frame, preceded_by, closed_in, paired_of, unwrapped_in, shorthand_of, last_name, offered_part, offered_as, bare_name}
-use Rattle.js_grammar.specs.Rules.{Test, Action, sees, sees_other, sees_on_line, sees_word, sees_key, sees_nonzero, sees_passing, after_line, may_end, may_be_parameters, must_be_parameters, passes_on, work_after, open_form, open_prefix, precede, precede_operator, close, pair, unwrap, name_it, declare, key, value, shorthand, offer, parameters_only, clear, omit, operator_kind, prefix_kind}
+use Rattle.parser_rules.specs.declared.class.Class.{Class}
+use Rattle.parser_rules.specs.declared.form.Cover.{Cover}
+use Rattle.parser_rules.specs.Classes.{class_of}
+use Rattle.parser_rules.specs.Work.{Work, opened, preceded, Part, Frame, preceded_by, closed_in, paired_of, unwrapped_in, shorthand_of, last_name, offered_part, offered_as, bare_name}
+use Rattle.parser_rules.specs.Rules.{Test, Action, sees, sees_other, sees_on_line, sees_word, sees_key, sees_nonzero, sees_passing, after_line, may_end, may_be_parameters, must_be_parameters, passes_on, work_after, open_form, open_prefix, precede, precede_operator, close, pair, unwrap, name_it, declare, key, value, shorthand, offer, parameters_only, clear, omit, operator_kind, prefix_kind}
 
 -- the work with these tokens left
 abbrev pub put : List Token → Work → Work

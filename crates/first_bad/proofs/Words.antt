@@ -7,10 +7,10 @@ use Rattle.std.proofs.lemmas.Slice.Eq.{bytes_eq-Decides}
 use Rattle.js_lexer.specs.declared.token.Token.{Token}
 use Rattle.js_lexer.specs.declared.token.TokenKind.{TokenKind}
 use Rattle.js_lexer.specs.declared.token.TokenKind.TheVariants as tokens
-use Rattle.js_grammar.specs.declared.class.Class.{Class}
-use Rattle.js_grammar.specs.declared.class.Class.TheVariants as classes
-use Rattle.js_grammar.specs.Classes.{class_of, token_class, word_class, begins_construction, is_word_token, is_punct_token, is_among, constructors, foreign_words, words, punctuators, class_in, Entry, code, is_one_of}
-use Rattle.js_grammar.specs.Rules.{is_word_kind}
+use Rattle.parser_rules.specs.declared.class.Class.{Class}
+use Rattle.parser_rules.specs.declared.class.Class.TheVariants as classes
+use Rattle.parser_rules.specs.Classes.{class_of, token_class, word_class, begins_construction, is_word_token, is_punct_token, is_among, constructors, foreign_words, words, punctuators, class_in, Entry, code, is_one_of}
+use Rattle.parser_rules.specs.Rules.{is_word_kind}
 use Rattle.first_bad.proofs.Begins.{both}
 
 -- the word whose class depends on what stands behind it

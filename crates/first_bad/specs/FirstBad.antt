@@ -3,13 +3,13 @@
 use Rattle.std.specs.Prelude.{◌≡◌, ℕ, List, [], ◌∷◌, ◌++◌, codes}
 use Rattle.js_lexer.specs.declared.token.Token.{Token}
 use Rattle.js_lexer.specs.declared.token.TokenKind.TheVariants.{Word}
-use Rattle.js_grammar.specs.declared.class.Class.TheVariants.{Foreign}
-use Rattle.js_grammar.specs.declared.form.Why.{Why}
-use Rattle.js_grammar.specs.declared.form.Why.TheVariants.{Unexpected, TooDeep}
-use Rattle.js_grammar.specs.Classes.{class_of}
-use Rattle.js_grammar.specs.Work.{Work, going, stuck}
-use Rattle.js_grammar.specs.Rules.{Rule}
-use Rattle.js_grammar.specs.Grammar.{reading}
+use Rattle.parser_rules.specs.declared.class.Class.TheVariants.{Foreign}
+use Rattle.parser_rules.specs.declared.form.Why.{Why}
+use Rattle.parser_rules.specs.declared.form.Why.TheVariants.{Unexpected, TooDeep}
+use Rattle.parser_rules.specs.Classes.{class_of}
+use Rattle.parser_rules.specs.Work.{Work, going, stuck}
+use Rattle.parser_rules.specs.Rules.{Rule}
+use Rattle.parser_rules.specs.Grammar.{reading}
 use Rattle.first_bad.specs.Viable.{Reads, Viable}
 
 -- the token is the word `new`, and begins no construction before these tokens

@@ -2,9 +2,9 @@
 -- This project's own; docs/SCRIPTS.md, "The grammar of scripts".
 use Rattle.std.specs.Prelude.{◌≡◌, ℕ, List, ◌++◌}
 use Rattle.js_lexer.specs.declared.token.Token.{Token}
-use Rattle.js_grammar.specs.Work.{Work, going}
-use Rattle.js_grammar.specs.Rules.{Rule}
-use Rattle.js_grammar.specs.Grammar.{reading}
+use Rattle.parser_rules.specs.Work.{Work, going}
+use Rattle.parser_rules.specs.Rules.{Rule}
+use Rattle.parser_rules.specs.Grammar.{reading}
 
 -- the rule reads these tokens, where some number of levels may be open
 abbrev pub Reads : Rule → List Token → Type 0

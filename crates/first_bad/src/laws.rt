@@ -1,6 +1,6 @@
 //! At which token a text is refused.
-ghost use Rattle.js_grammar.specs.Literals.{arguments_text, literal_text};
-ghost use Rattle.js_grammar.specs.Statements.{script};
+ghost use Rattle.parser_rules.specs.Literals.{arguments_text, literal_text};
+ghost use Rattle.parser_rules.specs.Statements.{script};
 ghost use Rattle.first_bad.specs.FirstBad.{StandsAtFirstBad};
 
 /// Where reading a script stands, it stands at the first bad token.

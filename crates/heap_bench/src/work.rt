@@ -4,8 +4,7 @@ ghost use Rattle.charged_heap.specs.Store.{item_at, place_count};
 
 use anyhow::Error;
 use charged_heap::{Heap, HeapFault, Item, PromiseState, Props, Value};
-use item_list::Items;
-use ivm_text::Units;
+use ivm_text::{Items, Units};
 use std::alloc::Global;
 use std::time::{Duration, Instant};
 

@@ -1,8 +1,7 @@
 //! Items, as tables name them.
 
 use charged_heap::{Binding, Item, PromiseState, Props, Reaction, Value};
-use item_list::Items;
-use ivm_text::{Copy as PlainCopy, ErrorKind, Handle, Leaf, TypeOf, Units};
+use ivm_text::{Copy as PlainCopy, ErrorKind, Handle, Items, Leaf, TypeOf, Units};
 use std::alloc::Global;
 use std::test::Fail;
 

@@ -6,7 +6,7 @@ ghost use Rattle.host_machine.specs.Calls.{is_open_in};
 ghost use Rattle.host_machine.specs.Last.{DropsLast};
 
 use host_meaning::Held;
-use item_list::Items;
+use ivm_text::Items;
 use std::alloc::{AllocError, Global};
 use std::marker::Model;
 

@@ -6,8 +6,7 @@ ghost use Rattle.host_meaning.specs.Machine.{isolate_of, context_in, row_in, arg
 
 use host_meaning::Held;
 use host_syntax::{HostArgument, HostScript, What};
-use item_list::CloneWhole;
-use ivm_text::Passed;
+use ivm_text::{CloneWhole, Passed};
 use std::alloc::{AllocError, Global};
 use task_history::Outcome;
 

@@ -1,7 +1,7 @@
 //! The last item of a list, taken back.
 ghost use Rattle.host_machine.specs.Last.{DropsLast};
 
-use item_list::Items;
+use ivm_text::Items;
 
 /// Drops the last item.
 pub fn drop_last<T: Drop>(list: &mut Items<T>)

@@ -7,7 +7,7 @@ ghost use Rattle.host_machine.specs.Tally.{tally_of, isolate_in};
 
 use crate::last::drop_last;
 use crate::tally::{Tally, isolate_in};
-use item_list::Items;
+use ivm_text::Items;
 use std::alloc::{AllocError, Global};
 use std::marker::Model;
 use task_history::{Event, History, Out, Settlement};

@@ -1,8 +1,8 @@
 //! What isolates answer, as rows name it.
 
 use anyhow::{Error, bail};
-use row_files::Row;
 use task_history::{By, Outcome};
+use test_tables::Row;
 
 /// The call that a row's reply names, if it names one.
 pub fn call_of(row: &Row) -> Result<Option<u32>, Error> {

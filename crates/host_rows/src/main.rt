@@ -2,7 +2,7 @@
 //!
 //! Contracts see nothing here: it is a program that reads the rows of data/, and whose output tells how many hold.
 //! Rely on: each walk was worked out by hand from docs/HOST.md, never from the host's own answers.
-//! Over `host_machine`, `host_script` and `row_files`; under no crate.
+//! Over `host_machine`, `host_script` and `test_tables`; under no crate.
 //! Begin with `data/orders.rows`, then `src/walk.rt`.
 #![tactic(auto)]
 
@@ -12,7 +12,7 @@ mod script;
 mod walk;
 
 use anyhow::Error;
-use row_files::Tally;
+use test_tables::Tally;
 
 /// A line for each walk with the number of its rows, a line for each row that fails, and at last how many held.
 fn main(rt: HostRuntime) -> Result<(), Error> {

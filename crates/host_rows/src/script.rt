@@ -1,8 +1,8 @@
 //! The host script of a walk, by its rows.
 
 use anyhow::Error;
-use row_files::{Row, Table, text_of};
 use std::alloc::Global;
+use test_tables::{Row, Table, text_of};
 
 /// The lines of the script, one after another.
 pub fn script_of(alloc: Global, walk: &Table) -> Result<String, Error> {

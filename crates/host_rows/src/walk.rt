@@ -6,9 +6,9 @@ use crate::script::{numbered, script_of};
 use anyhow::{Error, bail};
 use host_machine::Host;
 use host_script::read_host;
-use row_files::{Row, Table, Tally, read_tables};
 use std::alloc::Global;
 use task_history::{History, Out};
+use test_tables::{Row, Table, Tally, read_tables};
 
 /// Runs each walk of a file.
 pub fn run(rt: &HostRuntime, tally: &mut Tally, file: &str) -> Result<(), Error> {

@@ -13,8 +13,7 @@ use crate::literal::literal;
 use crate::options::{given_to, number_between, words_with};
 use crate::words::words_of;
 use crate::{HostArgument, HostFault, HostKind, What};
-use item_list::Items;
-use ivm_text::{Bytes, Copy, NoMemory, TextFault, Units, Want};
+use ivm_text::{Bytes, Copy, Items, NoMemory, TextFault, Units, Want};
 use std::alloc::Global;
 
 const MOST_ISOLATES: u32 = 64;

@@ -15,8 +15,7 @@ use crate::names::{Named, Names};
 use crate::text::{Text, is_utf8, read_text};
 use crate::words::{next_word, skip_blanks};
 use crate::{Command, HostFault, HostKind, HostScript, IsolateDecl, What};
-use item_list::{CloneWhole, Items};
-use ivm_text::{Bytes, Units};
+use ivm_text::{Bytes, CloneWhole, Items, Units};
 use std::alloc::Global;
 
 // The script so far, and the names that it has given.

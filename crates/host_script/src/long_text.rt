@@ -11,7 +11,7 @@ use crate::fault::at;
 use crate::lines::Lines;
 use crate::text::{MOST_TEXT, Text, is_utf8};
 use crate::{HostFault, HostKind};
-use item_list::Items;
+use ivm_text::Items;
 use std::alloc::{AllocError, Global};
 
 // The number of the first line that isn't UTF-8: the one found before, else this one.

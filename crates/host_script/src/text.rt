@@ -11,8 +11,7 @@ use crate::lines::Lines;
 use crate::long_text::long_text;
 use crate::words::{is_blank, split_last_word};
 use crate::{HostFault, HostKind};
-use item_list::Items;
-use ivm_text::Bytes;
+use ivm_text::{Bytes, Items};
 use std::alloc::Global;
 
 pub(crate) const MOST_TEXT: usize = 65_536;

@@ -2,8 +2,7 @@
 
 ghost use Rattle.std.specs.Prelude.{◌≡◌, IfOk};
 
-use item_list::{CloneWhole, Items};
-use ivm_text::{Bytes, Copy, NoMemory, Units, Want};
+use ivm_text::{Bytes, CloneWhole, Copy, Items, NoMemory, Units, Want};
 use std::alloc::{AllocError, Global};
 
 /// The isolates of a script, by number.

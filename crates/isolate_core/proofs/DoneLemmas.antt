@@ -6,7 +6,7 @@ use Rattle.charged_heap.specs.Store.{Store}
 use Rattle.charged_heap.specs.declared.fault.Fail.{Fail}
 use Rattle.charged_heap.specs.declared.fault.Fail.TheVariants as fail
 use Rattle.js_syntax.specs.declared.node.Node.{Node}
-use Rattle.script_scopes.specs.Ends.{Ends}
+use Rattle.js_scopes.specs.Ends.{Ends}
 use Rattle.script_meaning.specs.Places.{ScriptList, script_at}
 use Rattle.isolate_meaning.specs.State.{Contents}
 use Rattle.isolate_meaning.specs.Tasks.{Done, going_on, with_store}

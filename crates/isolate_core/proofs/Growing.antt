@@ -4,7 +4,7 @@ use Rattle.std.specs.Prelude.{slice_index_or, IfSome}
 use Rattle.std.specs.List.{All}
 use Rattle.std.proofs.lemmas.List.Elements.{All-nil, All-cons, All-append}
 use Rattle.std.proofs.lemmas.Map.Entries.{All-lookup}
-use Rattle.key_order.specs.Keys.{is_key, value_at}
+use Rattle.ivm_text.specs.Keys.{is_key, value_at}
 use Rattle.ivm_text.specs.declared.copies.ErrorKind.{ErrorKind}
 use Rattle.ivm_text.specs.declared.copies.Leaf.{Leaf}
 use Rattle.ivm_text.specs.declared.copies.Leaf.TheVariants as leaf

@@ -9,7 +9,7 @@ use crate::fits::fits;
 use crate::ledger::Ledger;
 use crate::life::{Life, carry_out};
 use ivm_text::NoMemory;
-use script_texts::texts_are_read_once;
+use js_scripts::texts_are_read_once;
 use std::alloc::Global;
 use std::marker::Model;
 use std::mem;

@@ -6,7 +6,7 @@ ghost use Rattle.isolate_core.specs.Contents.{contents_of};
 
 use crate::contexts::Context;
 use charged_heap::Heap;
-use item_list::Items;
+use ivm_text::Items;
 use js_syntax::Scripts;
 use std::alloc::Global;
 

@@ -3,7 +3,7 @@ ghost use Rattle.std.specs.Prelude.{◌≡◌, [], None, IfErr, IfOk};
 ghost use Rattle.charged_heap.specs.Closed.{IsClosed as IsClosedStore, IsSoundValue};
 ghost use Rattle.charged_heap.specs.Growth.{Grows};
 ghost use Rattle.charged_heap.specs.Store.{IsAt, IsPlain, IsScope};
-ghost use Rattle.script_scopes.specs.Ends.{IsSoundFail, Meets, item_made};
+ghost use Rattle.js_scopes.specs.Ends.{IsSoundFail, Meets, item_made};
 ghost use Rattle.isolate_meaning.specs.State.{AreClosed, IsClosed, IsClosedContext, IsRow};
 ghost use Rattle.isolate_meaning.specs.Tasks.{context_items, context_made, with_context};
 ghost use Rattle.isolate_core.specs.Contents.{contents_of};

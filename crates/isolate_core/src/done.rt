@@ -3,7 +3,7 @@ ghost use Rattle.std.specs.Prelude.{◌≡◌, ◌≢◌, IfOk};
 ghost use Rattle.isolate_meaning.specs.State.{AreClosed, IsClosed};
 ghost use Rattle.isolate_core.specs.Contents.{contents_of};
 ghost use Rattle.isolate_core.specs.Done.{done_of, refused_done};
-ghost use Rattle.script_scopes.specs.Ends.{IsSoundFail};
+ghost use Rattle.js_scopes.specs.Ends.{IsSoundFail};
 
 use crate::contents::Contents;
 use crate::values::thrown;

@@ -2,8 +2,7 @@
 ghost use Rattle.std.specs.Prelude.{◌≡◌, IfOk};
 ghost use Rattle.isolate_meaning.specs.Does.{entry_of};
 
-use item_list::{CloneWhole, Items};
-use ivm_text::NoMemory;
+use ivm_text::{CloneWhole, Items, NoMemory};
 use std::alloc::Global;
 use task_history::{Entry, Out, Outcome, Task};
 

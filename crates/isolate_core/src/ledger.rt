@@ -4,8 +4,7 @@ ghost use Rattle.std.specs.Prelude.{◌≡◌, true, [], ◌∷◌, ◌++◌, If
 ghost use Rattle.isolate_meaning.specs.Does.{stop_entry};
 ghost use Rattle.isolate_core.specs.Written.{closed};
 
-use item_list::Items;
-use ivm_text::NoMemory;
+use ivm_text::{Items, NoMemory};
 use std::alloc::Global;
 use std::marker::Model;
 use task_history::{By, Entry, Journal, Out, Outcome};

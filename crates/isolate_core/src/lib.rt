@@ -4,7 +4,7 @@
 //! `isolate_meaning`).
 //! Rely on: one exact entry per task, with its ticks and cells; the journal, carried out again, gives the state; a stop
 //! takes no memory.
-//! Over `isolate_meaning`, `script_eval` and `script_texts`; under the host.
+//! Over `isolate_meaning`, `script_eval` and `js_scripts`; under the host.
 //! Begin with `specs/Tasks.antt` and `specs/Does.antt` of `isolate_meaning`, then `src/cell.rt`.
 #![tactic(auto)]
 

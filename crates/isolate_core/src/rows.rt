@@ -2,7 +2,7 @@
 ghost use Rattle.std.specs.Prelude.{◌≡◌, ◌<◌, IfOk, IfSome, length};
 ghost use Rattle.charged_heap.specs.Closed.{IsClosed as IsClosedStore, IsSoundValue};
 ghost use Rattle.charged_heap.specs.Store.{properties};
-ghost use Rattle.key_order.specs.Keys.{value_at};
+ghost use Rattle.ivm_text.specs.Keys.{value_at};
 ghost use Rattle.isolate_meaning.specs.State.{AreClosed, IsClosed};
 ghost use Rattle.isolate_meaning.specs.Tasks.{own_property, property_read, property_written, row_value};
 ghost use Rattle.isolate_core.specs.Contents.{contents_of};

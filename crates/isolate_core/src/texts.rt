@@ -2,10 +2,10 @@
 ghost use Rattle.std.specs.Prelude.{◌≡◌, ◌-◌, ◌<◌, ◌^◌, IfErr, IfOk, length};
 ghost use Rattle.charged_heap.specs.Closed.{IsClosed as IsClosedStore};
 ghost use Rattle.charged_heap.specs.Growth.{Grows};
-ghost use Rattle.script_scopes.specs.Ends.{IsSoundFail, Meets, item_made};
+ghost use Rattle.js_scopes.specs.Ends.{IsSoundFail, Meets, item_made};
 ghost use Rattle.script_eval.specs.Runs.{IsSoundCompletion, root_of};
 ghost use Rattle.script_meaning.specs.Places.{script_at};
-ghost use Rattle.script_texts.specs.Text.{script as script_reading};
+ghost use Rattle.js_scripts.specs.Text.{script as script_reading};
 ghost use Rattle.isolate_meaning.specs.State.{AreClosed, IsClosed};
 ghost use Rattle.isolate_meaning.specs.Tasks.{context_at, last_run, run_done, text_run};
 ghost use Rattle.isolate_meaning.specs.Does.{RunsText};
@@ -18,10 +18,10 @@ use crate::values::{result, thrown};
 use charged_heap::{Fail, Heap, Item};
 use ivm_text::NoMemory;
 use js_parser::SyntaxFault;
+use js_scripts::read_script;
 use js_syntax::Checked;
 use script_eval::run_script;
 use script_meaning::{Completion, StopCause};
-use script_texts::read_script;
 use std::alloc::Global;
 use task_history::Outcome;
 

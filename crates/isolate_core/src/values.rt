@@ -7,8 +7,7 @@ ghost use Rattle.js_ops.specs.Values.{units_in};
 ghost use Rattle.isolate_meaning.specs.Values.{primitive, text, error, item_copy, value_copy, result as result_of, reading, not_copyable, thrown_item, thrown_copy, thrown, passed_value, value_of};
 
 use charged_heap::{Heap, Item, Value};
-use item_list::{CloneWhole, Items};
-use ivm_text::{Copy, CopyNode, ErrorKind, Leaf, NoMemory, Passed, Units};
+use ivm_text::{CloneWhole, Copy, CopyNode, ErrorKind, Items, Leaf, NoMemory, Passed, Units};
 use std::alloc::Global;
 use task_history::Outcome;
 

@@ -11,12 +11,12 @@ use Rattle.charged_heap.specs.declared.item.Item.TheVariants as item
 use Rattle.charged_heap.specs.declared.values.Value.{Value}
 use Rattle.charged_heap.specs.declared.values.Value.TheVariants as value
 use Rattle.js_members.specs.Writes.{write_outcome}
-use Rattle.script_scopes.specs.Ends.{Ends, and_then, item_made}
+use Rattle.js_scopes.specs.Ends.{Ends, and_then, item_made}
 use Rattle.script_meaning.specs.Evaluates.{script_run, run_end, run_start}
 use Rattle.script_meaning.specs.declared.completion.Completion.{Completion}
 use Rattle.script_meaning.specs.declared.completion.Completion.TheVariants as completion
 use Rattle.script_meaning.specs.declared.completion.StopCause.TheVariants.{Timeout, Memory}
-use Rattle.script_texts.specs.Text.{Reading, script, refused}
+use Rattle.js_scripts.specs.Text.{Reading, script, refused}
 use Rattle.task_history.specs.Lists.{is_disposal}
 use Rattle.task_history.specs.declared.task.Act.{Act}
 use Rattle.task_history.specs.declared.task.Act.TheVariants.{Get, Set, Apply, CopyOut}

@@ -12,7 +12,7 @@ use Rattle.task_history.specs.declared.outcome.Outcome.{Outcome}
 use Rattle.task_history.specs.declared.outcome.Outcome.TheVariants as outcome
 use Rattle.task_history.specs.declared.outcome.Out.TheVariants.{Reply}
 use Rattle.task_history.specs.declared.record.Entry.{Entry}
-use Rattle.script_texts.specs.Text.{Reading, Reads}
+use Rattle.js_scripts.specs.Text.{Reading, Reads}
 use Rattle.isolate_meaning.specs.State.{Contents, State, live, ended, Isolate, cells_of}
 use Rattle.isolate_meaning.specs.Values.{passed_value}
 use Rattle.isolate_meaning.specs.Tasks.{Done, context_made, text_run, property_read, property_written}

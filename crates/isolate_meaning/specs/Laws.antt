@@ -2,7 +2,7 @@
 -- This project's own; docs/MAP.md, "One isolate".
 use Rattle.std.specs.Prelude.{◌≡◌, ℕ, ◌<◌, List, ◌++◌, length, map, false, Option, None, Some, ◌⊎◌}
 use Rattle.std.specs.List.{Contains}
-use Rattle.script_texts.specs.Text.{Reading, Reads}
+use Rattle.js_scripts.specs.Text.{Reading, Reads}
 use Rattle.task_history.specs.Lists.{outs, replies, is_disposal, has_disposal}
 use Rattle.task_history.specs.declared.task.Task.{Task}
 use Rattle.task_history.specs.declared.outcome.By.{By}

@@ -2,7 +2,7 @@
 -- This project's own, after isolated-vm's `createContext`, `eval`, `get` and `set`; docs/HOST.md, "What a call gives", docs/PRICES.md.
 use Rattle.std.specs.Prelude.{ℕ, List, [], ◌∷◌, ◌++◌, ◌-◌, length, slice_index_or, Option, None, Ok, Err}
 use Rattle.std.specs.Option.{unwrap_or}
-use Rattle.key_order.specs.Keys.{value_at}
+use Rattle.ivm_text.specs.Keys.{value_at}
 use Rattle.charged_heap.specs.Price.{charge_of}
 use Rattle.charged_heap.specs.Store.{Store, item_at, properties}
 use Rattle.charged_heap.specs.declared.fault.Fail.TheVariants.{Throw, Over, NoMemory}
@@ -12,12 +12,12 @@ use Rattle.charged_heap.specs.declared.values.Value.{Value}
 use Rattle.charged_heap.specs.declared.values.Value.TheVariants as value
 use Rattle.js_syntax.specs.declared.node.Node.{Node}
 use Rattle.js_members.specs.Writes.{write_outcome}
-use Rattle.script_scopes.specs.Ends.{Ends, and_then, item_made}
+use Rattle.js_scopes.specs.Ends.{Ends, and_then, item_made}
 use Rattle.script_meaning.specs.Evaluates.{script_run, run_end, run_start}
 use Rattle.script_meaning.specs.declared.completion.Completion.{Completion}
 use Rattle.script_meaning.specs.declared.completion.Completion.TheVariants as completion
 use Rattle.script_meaning.specs.declared.completion.StopCause.TheVariants.{Timeout, Memory}
-use Rattle.script_texts.specs.Text.{Reading, script, refused}
+use Rattle.js_scripts.specs.Text.{Reading, script, refused}
 use Rattle.task_history.specs.declared.outcome.By.TheVariants as by
 use Rattle.task_history.specs.declared.outcome.Outcome.{Outcome}
 use Rattle.task_history.specs.declared.outcome.Outcome.TheVariants as outcome

@@ -10,7 +10,7 @@ ghost use Rattle.isolate_meaning.specs.Does.{Does};
 ghost use Rattle.isolate_meaning.specs.Replay.{Replay};
 ghost use Rattle.isolate_meaning.specs.Laws.{AnswersEachOnce, EndsByDisposal, IsContextReply, IsOneDeed, IsOneEnd, IsRefusedWhereEnded, HasCause, KnownFits, TellsWhatIsThere};
 
-use script_texts::texts_are_read_once;
+use js_scripts::texts_are_read_once;
 
 /// Each entry of a journal sends one reply, in order, and the reply names the call of the entry's task.
 pub fn each_task_is_answered_once()

@@ -2,7 +2,7 @@
 //!
 //! Contracts see states, tasks and journals as plain values, stores and lists; nothing here knows a heap, a lock or a frame.
 //! Rely on: the laws that stand on the functions of `laws`.
-//! Over `script_meaning`, `script_texts` and `task_history`; under `isolate_core` and `host_meaning`.
+//! Over `script_meaning`, `js_scripts` and `task_history`; under `isolate_core` and `host_meaning`.
 //! Begin with `specs/State.antt`, then `specs/Tasks.antt`, `specs/Does.antt` and `specs/Replay.antt`.
 #![tactic(auto)]
 

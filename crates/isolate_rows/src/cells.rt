@@ -4,9 +4,9 @@ use crate::tasks::{context_of, eval_of};
 use crate::told::told_of_entry;
 use anyhow::{Error, bail};
 use isolate_core::Cell;
-use row_files::{Row, Table, Tally, read_tables};
 use std::alloc::Global;
 use task_history::{Entry, Journal, Task};
+use test_tables::{Row, Table, Tally, read_tables};
 
 /// Runs each cell of a file.
 pub fn run(rt: &HostRuntime, tally: &mut Tally, file: &str) -> Result<(), Error> {

@@ -2,7 +2,7 @@
 //!
 //! Contracts see nothing here: it is a program that reads the rows of data/, and whose output tells how many hold.
 //! Rely on: ticks and cells were worked out by hand from docs/PRICES.md, never from the cell's own answers.
-//! Over `isolate_core` and `row_files`; under no crate.
+//! Over `isolate_core` and `test_tables`; under no crate.
 //! Begin with `data/cells.rows`, then `src/cells.rt`.
 #![tactic(auto)]
 
@@ -11,7 +11,7 @@ mod tasks;
 mod told;
 
 use anyhow::Error;
-use row_files::Tally;
+use test_tables::Tally;
 
 /// A line for each cell with the number of its rows, a line for each row that fails, and at last how many held.
 fn main(rt: HostRuntime) -> Result<(), Error> {

@@ -1,11 +1,10 @@
 //! Tasks, as rows name them.
 
 use anyhow::Error;
-use item_list::Items;
-use ivm_text::{Bytes, Want};
-use row_files::Row;
+use ivm_text::{Bytes, Items, Want};
 use std::alloc::Global;
 use task_history::{Task, TaskKind};
+use test_tables::Row;
 
 /// The task of a row which makes a context: its call.
 pub fn context_of(row: &Row) -> Result<Task, Error> {

@@ -13,9 +13,9 @@ ghost use Rattle.ivm_cli.specs.Texts.{bad_host_line, usage_line};
 ghost use Rattle.ivm_cli.specs.Run.{Asks, Ends, NoScript, Ran, most};
 
 use crate::Status;
-use crate::one_thread::carry_out;
 use crate::texts::bad_host;
 use crate::words::ask_for_a_run;
+use host_runs::carry_out;
 use host_script::{HostFault, HostKind, HostScript, read_host};
 use ivm_io::{Gate, ReadStop, Sink, Source, read_all, write_all};
 use ivm_report::report;

@@ -4,9 +4,9 @@ use crate::outcomes::{own_text, push_outcome};
 use crate::report;
 use crate::values::push_string;
 use host_syntax::{Command, HostScript, What};
-use item_list::Items;
 use ivm_text::{
-    Copy, CopyNode, Handle, Leaf, Passed, Refusal, RefusalKind, TypeOf, Uncopyable, Units, Want,
+    Copy, CopyNode, Handle, Items, Leaf, Passed, Refusal, RefusalKind, TypeOf, Uncopyable, Units,
+    Want,
 };
 use std::alloc::Global;
 use std::test::Fail;

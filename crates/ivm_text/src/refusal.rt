@@ -1,7 +1,6 @@
 //! Why a script's text is refused.
 
-use crate::Units;
-use item_list::CloneWhole;
+use crate::{CloneWhole, Units};
 use std::alloc::{AllocError, Global};
 
 /// The kinds of refusal, in the order of their numbers from 1 to 13.

@@ -1,21 +1,17 @@
--- The rules of expressions.
+-- Expressions by cases.
 -- ECMA-262, Expressions; docs/SCRIPTS.md, "Expressions".
-use Rattle.std.specs.Prelude.{List, [], ◌∷◌}
-use Rattle.js_syntax.specs.declared.kind.Kind.{Kind}
+use Rattle.std.specs.Prelude.{◌≡◌, List, [], ◌∷◌, map, Option, None, Some}
 use Rattle.js_syntax.specs.declared.kind.Kind.TheVariants as kinds
-use Rattle.js_grammar.specs.declared.class.Class.{Class}
-use Rattle.js_grammar.specs.declared.class.Class.TheVariants.{End, Name, Num, Text, Function, TypeOf, Void, This, Undefined, Null, True, False, New, BraceOpen, BraceClose, ParenOpen, ParenClose, BracketOpen, BracketClose, Dot, Comma, Less, More, AtMost, AtLeast, Same, NotSame, Plus, Minus, Times, Over, Percent, PlusPlus, MinusMinus, Not, AndAnd, OrOr, Coalesce, Question, Colon, Equals, PlusEquals, MinusEquals, TimesEquals, OverEquals, PercentEquals, Arrow}
-use Rattle.js_grammar.specs.declared.form.Form.TheVariants.{Expression, Prefix, Item}
-use Rattle.js_grammar.specs.Rules.{Rule, Test, nothing_more, take, act, inside, ◌▸◌, either, many, refuse, sees, sees_other, sees_on_line, sees_word, sees_key, may_be_parameters, must_be_parameters, open_form, open_prefix, precede, precede_operator, close, pair, unwrap, name_it, declare, key, value, shorthand, offer, parameters_only, clear, omit}
+use Rattle.parser_rules.specs.declared.class.Class.{Class}
+use Rattle.parser_rules.specs.declared.class.Class.TheVariants.{End, Name, Num, Text, Function, TypeOf, Void, This, Undefined, Null, True, False, New, BraceOpen, BraceClose, ParenOpen, ParenClose, BracketOpen, BracketClose, Dot, Comma, Less, More, AtMost, AtLeast, Same, NotSame, Plus, Minus, Times, Over, Percent, PlusPlus, MinusMinus, Not, AndAnd, OrOr, Coalesce, Question, Colon, Equals, PlusEquals, MinusEquals, TimesEquals, OverEquals, PercentEquals, Arrow}
+use Rattle.parser_rules.specs.declared.form.Form.{Form}
+use Rattle.parser_rules.specs.declared.form.Form.TheVariants.{Expression, Prefix, Item}
+use Rattle.parser_rules.specs.Classes.{class_of}
+use Rattle.parser_rules.specs.Work.{Part, bare_name}
+use Rattle.parser_rules.specs.Rules.{kind_passes, is_word_kind, is_key_kind, prefix_kind, operator_kind}
+use Rattle.js_grammar.specs.Spots.{Spot, Reading, Tail, Named, is, among, other_than, on_line, Sees, SeesNot, Takes, named_at, keyed_at, number_of, one_more, node, node_from, with_name, with_name_if_any, with_names, with_value, name_node, from_paren, Many, Followed, Chain, Then, Nothing}
 
--- a token of this class is in view
-abbrev pub at : Class → Test
-at c = sees (c ∷ [])
-
-abbrev pub token : Class → Rule
-token c = take (at c)
-
--- ---- sets
+-- ---- sets of tokens
 
 abbrev pub prefix_operators : List Class
 prefix_operators = Not ∷ Minus ∷ Plus ∷ TypeOf ∷ Void ∷ PlusPlus ∷ MinusMinus ∷ []
@@ -23,311 +19,204 @@ prefix_operators = Not ∷ Minus ∷ Plus ∷ TypeOf ∷ Void ∷ PlusPlus ∷ M
 abbrev pub assignments : List Class
 assignments = Equals ∷ PlusEquals ∷ MinusEquals ∷ TimesEquals ∷ OverEquals ∷ PercentEquals ∷ []
 
-abbrev pub product_operators : List Class
-product_operators = Times ∷ Over ∷ Percent ∷ []
-
-abbrev pub sum_operators : List Class
-sum_operators = Plus ∷ Minus ∷ []
-
-abbrev pub comparison_operators : List Class
-comparison_operators = Less ∷ More ∷ AtMost ∷ AtLeast ∷ []
-
-abbrev pub equality_operators : List Class
-equality_operators = Same ∷ NotSame ∷ []
-
--- what an expression may begin with
-abbrev pub expression_begins : List Class
-expression_begins =
-    Name ∷ Num ∷ Text ∷ Function ∷ This ∷ Undefined ∷ Null ∷ True ∷ False ∷ New ∷ BraceOpen ∷ ParenOpen ∷ BracketOpen ∷ Not ∷ Minus ∷ Plus ∷ TypeOf ∷ Void ∷ PlusPlus ∷ MinusMinus ∷ []
-
--- ---- lists
-
-unfoldable pub further_expression : Rule
-further_expression = token Comma ▸ inside Expression ▸ act (pair kinds.Comma)
-
--- Expression: one, or several with `,` between, which lean to the left
-unfoldable pub expression_list : Rule
-expression_list = inside Expression ▸ many (at Comma) further_expression
-
--- a `,`, or what closes the list
-unfoldable pub comma_before : Class → Rule
-comma_before closing = either (at Comma) (token Comma) (either (at closing) nothing_more refuse)
-
-unfoldable pub element : Class → Rule
-element closing = inside Expression ▸ comma_before closing
-
--- ArgumentList and ElementList, without spreads and holes; a `,` may stand at the end
-unfoldable pub elements : Class → Rule
-elements closing = many (sees_other (closing ∷ [])) (element closing) ▸ token closing
-
--- StatementList, up to a `}` or the end
-unfoldable pub item_list : Rule
-item_list = many (sees_other (BraceClose ∷ End ∷ [])) (inside Item)
-
--- ---- functions
-
--- a name that is declared
-unfoldable pub declared_name : Rule
-declared_name = act declare ▸ token Name
-
-unfoldable pub parameter : Rule
-parameter = declared_name ▸ comma_before ParenClose
-
--- FormalParameters, without defaults and patterns
-unfoldable pub parameters : Rule
-parameters = token ParenOpen ▸ many (at Name) parameter ▸ token ParenClose
-
--- FunctionBody
-unfoldable pub body : Rule
-body = act (open_form kinds.Body) ▸ token BraceOpen ▸ item_list ▸ token BraceClose ▸ act close
-
--- a name that the form has, where there is one
-unfoldable pub own_name : Rule
-own_name = act name_it ▸ token Name
-
-unfoldable pub name_if_any : Rule
-name_if_any = either (at Name) own_name nothing_more
-
--- FunctionExpression
-unfoldable pub function_expression : Rule
-function_expression =
-    act (open_form kinds.FunctionExpr) ▸ token Function ▸ name_if_any ▸ parameters ▸ body ▸ act close
-
--- ConciseBody
-unfoldable pub concise_body : Rule
-concise_body = either (at BraceOpen) body (inside Expression)
-
--- the rest of an ArrowFunction whose parameters were read; no line terminator stands before the `=>`
-unfoldable pub arrow : Rule
-arrow = act clear ▸ take (sees_on_line (Arrow ∷ [])) ▸ concise_body ▸ act close
-
--- ---- operands
-
--- a node of one token
-unfoldable pub leaf : Kind → Class → Rule
-leaf kind class = act (open_form kind) ▸ token class ▸ act close
-
--- IdentifierReference
-unfoldable pub name_leaf : Rule
-name_leaf = act (open_form kinds.Name) ▸ own_name ▸ act close
-
-unfoldable pub number_leaf : Rule
-number_leaf = act (open_form kinds.Num) ▸ act value ▸ token Num ▸ act close
-
-unfoldable pub text_leaf : Rule
-text_leaf = act (open_form kinds.Text) ▸ act name_it ▸ token Text ▸ act close
-
--- the words that are values by themselves; `undefined` is one of them here
-unfoldable pub word_leaf : Rule
-word_leaf =
-    either (at This) (leaf kinds.This This)
-    (either (at Undefined) (leaf kinds.Undefined Undefined)
-    (either (at Null) (leaf kinds.Null Null)
-    (either (at True) (leaf kinds.True True)
-    (either (at False) (leaf kinds.False False) refuse))))
-
--- ArrayLiteral
-unfoldable pub array : Rule
-array = act (open_form kinds.Array) ▸ token BracketOpen ▸ elements BracketClose ▸ act close
-
-unfoldable pub property_value : Rule
-property_value = token Colon ▸ inside Expression
-
-unfoldable pub named_property : Rule
-named_property = declared_name ▸ either (at Colon) property_value (act shorthand)
-
-unfoldable pub keyed_property : Rule
-keyed_property = act key ▸ take sees_key ▸ property_value
-
--- PropertyDefinition: `x`, `x: e`, or a key with its value
-unfoldable pub property : Rule
-property = either (at Name) named_property keyed_property ▸ comma_before BraceClose
-
--- ObjectLiteral
-unfoldable pub object : Rule
-object =
-    act (open_form kinds.Object) ▸ token BraceOpen ▸ many (sees_other (BraceClose ∷ [])) property ▸ token BraceClose ▸ act close
-
--- `new N(args)`, for the constructors that a script can name
-unfoldable pub construction : Rule
-construction =
-    act (open_form kinds.New) ▸ token New ▸ act name_it ▸ take sees_word ▸ token ParenOpen ▸ elements ParenClose ▸ act close
-
--- PrimaryExpression, but names and parentheses
-unfoldable pub primary : Rule
-primary =
-    either (at Num) number_leaf
-    (either (at Text) text_leaf
-    (either (at BracketOpen) array
-    (either (at BraceOpen) object
-    (either (at Function) function_expression
-    (either (at New) construction word_leaf)))))
-
--- ParenthesizedExpression, where no arrow function may stand
-unfoldable pub parenthesised : Rule
-parenthesised = act (open_form kinds.Arrow) ▸ token ParenOpen ▸ expression_list ▸ token ParenClose ▸ act unwrap
-
--- ---- behind an operand
-
-unfoldable pub member : Rule
-member = act (precede kinds.Member) ▸ token Dot ▸ act name_it ▸ take sees_word ▸ act close
-
-unfoldable pub index : Rule
-index = act (precede kinds.Index) ▸ token BracketOpen ▸ expression_list ▸ token BracketClose ▸ act close
-
-unfoldable pub call : Rule
-call = act (precede kinds.Call) ▸ token ParenOpen ▸ elements ParenClose ▸ act close
-
-unfoldable pub access : Rule
-access = either (at Dot) member (either (at BracketOpen) index call)
-
--- MemberExpression and CallExpression, which lean to the left
-unfoldable pub calls : Rule
-calls = many (sees (Dot ∷ BracketOpen ∷ ParenOpen ∷ [])) access
-
-unfoldable pub stepped : Rule
-stepped = act precede_operator ▸ take (sees (PlusPlus ∷ MinusMinus ∷ [])) ▸ act close
-
--- UpdateExpression: no line terminator stands before the operator
-unfoldable pub postfix : Rule
-postfix = either (sees_on_line (PlusPlus ∷ MinusMinus ∷ [])) stepped nothing_more
-
--- what calls, members and operators behind it may follow
-unfoldable pub simple_operand : Rule
-simple_operand = either (at ParenOpen) parenthesised (either (at Name) name_leaf primary)
-
-unfoldable pub called_operand : Rule
-called_operand = simple_operand ▸ calls ▸ postfix
-
--- UnaryExpression: operators before an operand are levels
-unfoldable pub operand : Rule
-operand = either (sees prefix_operators) (inside Prefix) called_operand
-
-unfoldable pub prefix : Rule
-prefix = act open_prefix ▸ take (sees prefix_operators) ▸ operand ▸ act close
-
--- ---- operators between operands
-
--- an operator between operands, and its right operand, behind which `tighter` reads what binds tighter
-abbrev pub binary : List Class → Rule → Rule
-binary operators tighter = act precede_operator ▸ take (sees operators) ▸ operand ▸ tighter ▸ act close
-
--- MultiplicativeExpression; here and below, what stands behind the first operand
-unfoldable pub product : Rule
-product = act precede_operator ▸ take (sees product_operators) ▸ operand ▸ act close
-
-unfoldable pub products : Rule
-products = many (sees product_operators) product
-
--- AdditiveExpression
-unfoldable pub sum_step : Rule
-sum_step = binary sum_operators products
-
-unfoldable pub sums : Rule
-sums = products ▸ many (sees sum_operators) sum_step
-
--- RelationalExpression
-unfoldable pub comparison : Rule
-comparison = binary comparison_operators sums
-
-unfoldable pub comparisons : Rule
-comparisons = sums ▸ many (sees comparison_operators) comparison
-
--- EqualityExpression
-unfoldable pub equality : Rule
-equality = binary equality_operators comparisons
-
-unfoldable pub equalities : Rule
-equalities = comparisons ▸ many (sees equality_operators) equality
-
--- CoalesceExpression: its operands are without `&&` and `||`, and it leans to the left
-unfoldable pub coalescing : Rule
-coalescing = binary (Coalesce ∷ []) equalities
-
--- LogicalANDExpression
-unfoldable pub conjunction : Rule
-conjunction = binary (AndAnd ∷ []) equalities
-
-unfoldable pub conjunctions : Rule
-conjunctions = many (at AndAnd) conjunction
-
--- LogicalORExpression
-unfoldable pub disjunction : Rule
-disjunction = act precede_operator ▸ token OrOr ▸ operand ▸ equalities ▸ conjunctions ▸ act close
-
-unfoldable pub logical : Rule
-logical = conjunctions ▸ many (at OrOr) disjunction
-
-unfoldable pub coalescings : Rule
-coalescings = many (at Coalesce) coalescing
-
--- ShortCircuitExpression: `??` does not mix with `&&` and `||`
-unfoldable pub short_circuit : Rule
-short_circuit = equalities ▸ either (at Coalesce) coalescings logical
-
-unfoldable pub choice : Rule
-choice = act (precede kinds.Cond) ▸ token Question ▸ inside Expression ▸ token Colon ▸ inside Expression ▸ act close
-
--- ConditionalExpression
-unfoldable pub conditional : Rule
-conditional = short_circuit ▸ either (at Question) choice nothing_more
-
-unfoldable pub assigned : Rule
-assigned = act precede_operator ▸ take (sees assignments) ▸ inside Expression ▸ act close
-
--- AssignmentExpression, behind what calls and members may follow: only that may stand to the left of `=`
-unfoldable pub assignment : Rule
-assignment = calls ▸ either (sees assignments) assigned (postfix ▸ conditional)
-
--- ---- expressions
-
-unfoldable pub offered_item : Rule
-offered_item = inside Expression ▸ act offer ▸ act (pair kinds.Comma)
-
-unfoldable pub further_name : Rule
-further_name = either (at ParenClose) (act parameters_only) offered_item
-
--- a further expression behind a `(`, or nothing but the `)` where all were names
-unfoldable pub further_item : Rule
-further_item = token Comma ▸ either may_be_parameters further_name offered_item
-
-unfoldable pub some_items : Rule
-some_items = inside Expression ▸ act offer ▸ many (at Comma) further_item
-
--- what stands between the parentheses
-unfoldable pub items : Rule
-items = either (at ParenClose) (act parameters_only) some_items
-
-unfoldable pub unwrapped_first : Rule
-unwrapped_first = act unwrap ▸ assignment
-
-unfoldable pub behind_names : Rule
-behind_names = either (sees_on_line (Arrow ∷ [])) arrow unwrapped_first
-
--- behind the `)`: an arrow function, or the rest of an expression
-unfoldable pub behind_items : Rule
-behind_items = either must_be_parameters arrow (either may_be_parameters behind_names unwrapped_first)
-
--- CoverParenthesizedExpressionAndArrowParameterList
-unfoldable pub covered : Rule
-covered = act (open_form kinds.Arrow) ▸ token ParenOpen ▸ items ▸ token ParenClose ▸ behind_items
-
-unfoldable pub named_arrow : Rule
-named_arrow = act (precede kinds.Arrow) ▸ act offer ▸ arrow
-
--- a name, and then an arrow function or the rest of an expression
-unfoldable pub named_first : Rule
-named_first = name_leaf ▸ either (sees_on_line (Arrow ∷ [])) named_arrow assignment
-
-unfoldable pub prefix_first : Rule
-prefix_first = inside Prefix ▸ conditional
-
-unfoldable pub primary_first : Rule
-primary_first = primary ▸ assignment
-
--- an expression without `,`
-unfoldable pub expression : Rule
-expression =
-    either (at ParenOpen) covered
-    (either (at Name) named_first
-    (either (sees prefix_operators) prefix_first primary_first))
+abbrev pub steps : List Class
+steps = PlusPlus ∷ MinusMinus ∷ []
+
+-- ---- names
+
+-- a name that is declared here
+pub data Declares : Spot → Named → Spot → Type 0 where
+  declares : {p q : Spot} → Takes (is Name) p q → Declares p (named_at p) q
+
+pub data NameIfAny : Spot → Option Named → Spot → Type 0 where
+  named : {p q : Spot} → Takes (is Name) p q → NameIfAny p (Some (named_at p)) q
+  unnamed : {p : Spot} → SeesNot (is Name) p → NameIfAny p None p
+
+-- FormalParameters, without defaults and patterns: names, with a `,` between and maybe behind them
+pub data Parameters : Spot → List Named → Spot → Type 0 where
+  parameters : {p a b q : Spot} {ns : List Named} → Takes (is ParenOpen) p a → Many (is Name) (Followed (is Comma) (is ParenClose) Declares) a ns b → Takes (is ParenClose) b q → Parameters p ns q
+
+-- `inside` reads what stands one level further inside
+module _ (inside : Form → Reading Part) where
+  -- ---- lists
+
+  -- expressions with a `,` between and maybe behind them, up to what closes them, which is read too: ArgumentList and ElementList, without spreads and holes
+  pub data Elements (closing : Class) : Spot → List Part → Spot → Type 0 where
+    elements : {p a q : Spot} {xs : List Part} → Many (other_than (closing ∷ [])) (Followed (is Comma) (is closing) (inside Expression)) p xs a → Takes (is closing) a q → Elements closing p xs q
+
+  pub data CommaBehind : Part → Spot → Part → Spot → Type 0 where
+    comma_behind : {x y : Part} {p a q : Spot} → Takes (is Comma) p a → inside Expression a y q → CommaBehind x p (node_from kinds.Comma x (x ∷ y ∷ []) q) (one_more q)
+
+  -- Expression: one, or several with `,` between
+  pub data ExpressionList : Spot → Part → Spot → Type 0 where
+    expression_list : {p a q : Spot} {x y : Part} → inside Expression p x a → Chain (is Comma) CommaBehind x a y q → ExpressionList p y q
+
+  -- StatementList, up to a `}` or the end
+  abbrev pub Items : Spot → List Part → Spot → Type 0
+  Items = Many (other_than (BraceClose ∷ End ∷ [])) (inside Item)
+
+  -- ---- functions
+
+  -- FunctionBody
+  pub data Body : Spot → Part → Spot → Type 0 where
+    body : {p a b q : Spot} {xs : List Part} → Takes (is BraceOpen) p a → Items a xs b → Takes (is BraceClose) b q → Body p (node kinds.Body p xs q) (one_more q)
+
+  -- FunctionExpression
+  pub data FunctionExpression : Spot → Part → Spot → Type 0 where
+    function_expression : {p a b c q : Spot} {o : Option Named} {ns : List Named} {x : Part} →
+        Takes (is Function) p a → NameIfAny a o b → Parameters b ns c → Body c x q →
+        FunctionExpression p (with_name_if_any o (with_names ns (node kinds.FunctionExpr p (x ∷ []) q))) (one_more q)
+
+  -- ConciseBody
+  pub data ConciseBody : Spot → Part → Spot → Type 0 where
+    braces : {p q : Spot} {x : Part} → Body p x q → ConciseBody p x q
+    concise : {p q : Spot} {x : Part} → SeesNot (is BraceOpen) p → inside Expression p x q → ConciseBody p x q
+
+  -- The names between the parentheses of an arrow function. Each is read as an expression that is nothing but a name, and each `,` between them as an operator.
+  pub data MoreNames : Spot → List Named → Spot → Type 0 where
+    last_name : {p : Spot} → Sees (is ParenClose) p → MoreNames p [] p
+    comma_behind_names : {p q : Spot} → Takes (is Comma) p q → Sees (is ParenClose) q → MoreNames p [] q
+    further_name : {p a b q : Spot} {x : Part} {n : Named} {ns : List Named} →
+        Takes (is Comma) p a → inside Expression a x b → bare_name x ≡ Some n → MoreNames (one_more b) ns q → MoreNames p (n ∷ ns) q
+
+  pub data ArrowNames : Spot → List Named → Spot → Type 0 where
+    no_names : {p : Spot} → Sees (is ParenClose) p → ArrowNames p [] p
+    some_names : {p a q : Spot} {x : Part} {n : Named} {ns : List Named} →
+        inside Expression p x a → bare_name x ≡ Some n → MoreNames a ns q → ArrowNames p (n ∷ ns) q
+
+  -- ArrowParameters: one name, or names in parentheses
+  pub data ArrowParameters : Spot → List Named → Spot → Type 0 where
+    one_name : {p q : Spot} → Takes (is Name) p q → ArrowParameters p (named_at p ∷ []) (one_more q)
+    names_in_parentheses : {p a b q : Spot} {ns : List Named} → Takes (is ParenOpen) p a → ArrowNames a ns b → Takes (is ParenClose) b q → ArrowParameters p ns q
+
+  -- ArrowFunction; no line terminator stands before the `=>`
+  pub data ArrowFunction : Spot → Part → Spot → Type 0 where
+    arrow_function : {p a b q : Spot} {ns : List Named} {x : Part} →
+        ArrowParameters p ns a → Takes (on_line (Arrow ∷ [])) a b → ConciseBody b x q →
+        ArrowFunction p (with_names ns (node kinds.Arrow p (x ∷ []) q)) (one_more q)
+
+  -- ---- operands
+
+  -- PropertyDefinition: `x`, or a key with its value
+  pub data Property : Spot → Named × Part → Spot → Type 0 where
+    shorthand : {p a : Spot} → Takes (is Name) p a → SeesNot (is Colon) a → Property p (named_at p, name_node p a) (one_more a)
+    with_key : {p a b q : Spot} {x : Part} → Takes (kind_passes is_key_kind) p a → Takes (is Colon) a b → inside Expression b x q → Property p (keyed_at p, x) q
+
+  -- PrimaryExpression, but names and parentheses
+  pub data Primary : Spot → Part → Spot → Type 0 where
+    number : {p q : Spot} → Takes (is Num) p q → Primary p (with_value (number_of p.rest) (node kinds.Num p [] q)) (one_more q)
+    text : {p q : Spot} → Takes (is Text) p q → Primary p (with_name (named_at p) (node kinds.Text p [] q)) (one_more q)
+    this : {p q : Spot} → Takes (is This) p q → Primary p (node kinds.This p [] q) (one_more q)
+    undefined : {p q : Spot} → Takes (is Undefined) p q → Primary p (node kinds.Undefined p [] q) (one_more q)
+    null : {p q : Spot} → Takes (is Null) p q → Primary p (node kinds.Null p [] q) (one_more q)
+    true_word : {p q : Spot} → Takes (is True) p q → Primary p (node kinds.True p [] q) (one_more q)
+    false_word : {p q : Spot} → Takes (is False) p q → Primary p (node kinds.False p [] q) (one_more q)
+    -- ArrayLiteral
+    array : {p a q : Spot} {xs : List Part} → Takes (is BracketOpen) p a → Elements BracketClose a xs q → Primary p (node kinds.Array p xs q) (one_more q)
+    -- ObjectLiteral
+    object : {p a b q : Spot} {ps : List (Named × Part)} →
+        Takes (is BraceOpen) p a → Many (other_than (BraceClose ∷ [])) (Followed (is Comma) (is BraceClose) Property) a ps b → Takes (is BraceClose) b q →
+        Primary p (with_names (map (λ (e : Named × Part). e.0) ps) (node kinds.Object p (map (λ (e : Named × Part). e.1) ps) q)) (one_more q)
+    function : {p q : Spot} {x : Part} → FunctionExpression p x q → Primary p x q
+    -- `new N(args)`, for the constructors that a script can name
+    construction : {p a b c q : Spot} {xs : List Part} →
+        Takes (is New) p a → Takes (kind_passes is_word_kind) a b → Takes (is ParenOpen) b c → Elements ParenClose c xs q →
+        Primary p (with_name (named_at a) (node kinds.New p xs q)) (one_more q)
+
+  -- what calls, members and operators behind it may follow
+  pub data Simple : Spot → Part → Spot → Type 0 where
+    parentheses : {p a b q : Spot} {x : Part} → Takes (is ParenOpen) p a → ExpressionList a x b → Takes (is ParenClose) b q → Simple p (from_paren p x) q
+    name : {p q : Spot} → Takes (is Name) p q → Simple p (name_node p q) (one_more q)
+    primary : {p q : Spot} {x : Part} → Primary p x q → Simple p x q
+
+  -- ---- behind an operand
+
+  pub data Access : Part → Spot → Part → Spot → Type 0 where
+    member : {x : Part} {p a q : Spot} → Takes (is Dot) p a → Takes (kind_passes is_word_kind) a q → Access x p (with_name (named_at a) (node_from kinds.Member x (x ∷ []) q)) (one_more q)
+    index : {x y : Part} {p a b q : Spot} → Takes (is BracketOpen) p a → ExpressionList a y b → Takes (is BracketClose) b q → Access x p (node_from kinds.Index x (x ∷ y ∷ []) q) (one_more q)
+    call : {x : Part} {ys : List Part} {p a q : Spot} → Takes (is ParenOpen) p a → Elements ParenClose a ys q → Access x p (node_from kinds.Call x (x ∷ ys) q) (one_more q)
+
+  -- MemberExpression and CallExpression
+  abbrev pub Calls : Tail
+  Calls = Chain (among (Dot ∷ BracketOpen ∷ ParenOpen ∷ [])) Access
+
+  -- UpdateExpression: no line terminator stands before the operator
+  pub data Postfix : Part → Spot → Part → Spot → Type 0 where
+    stepped : {x : Part} {p q : Spot} → Takes (on_line steps) p q → Postfix x p (node_from (operator_kind (class_of p.rest)) x (x ∷ []) q) (one_more q)
+    not_stepped : {x : Part} {p : Spot} → SeesNot (on_line steps) p → Postfix x p x p
+
+  -- UnaryExpression; an operator before its operand is a level of its own
+  pub data Operand : Spot → Part → Spot → Type 0 where
+    prefixed : {p q : Spot} {x : Part} → Sees (among prefix_operators) p → inside Prefix p x q → Operand p x q
+    called : {p a b q : Spot} {x y z : Part} → Simple p x a → Calls x a y b → Postfix y b z q → Operand p z q
+
+  -- an operator before its operand
+  pub data PrefixForm : Spot → Part → Spot → Type 0 where
+    prefix : {p a q : Spot} {x : Part} → Takes (among prefix_operators) p a → Operand a x q → PrefixForm p (node (prefix_kind (class_of p.rest)) p (x ∷ []) q) (one_more q)
+
+  -- ---- operators between operands
+
+  -- an operator, and its right operand, behind which `Tighter` reads what binds tighter
+  pub data RightOperand (operators : List Class) (Tighter : Tail) : Part → Spot → Part → Spot → Type 0 where
+    right_operand : {x y z : Part} {p a b q : Spot} → Takes (among operators) p a → Operand a y b → Tighter y b z q →
+        RightOperand operators Tighter x p (node_from (operator_kind (class_of p.rest)) x (x ∷ z ∷ []) q) (one_more q)
+
+  -- a level of operators, which lean to the left
+  abbrev pub Level : List Class → Tail → Tail
+  Level operators Tighter = Chain (among operators) (RightOperand operators Tighter)
+
+  -- Each level as what may stand behind its first operand: MultiplicativeExpression,
+  abbrev pub Products : Tail
+  Products = Level (Times ∷ Over ∷ Percent ∷ []) Nothing
+
+  -- AdditiveExpression,
+  abbrev pub Sums : Tail
+  Sums = Then Products (Level (Plus ∷ Minus ∷ []) Products)
+
+  -- RelationalExpression,
+  abbrev pub Comparisons : Tail
+  Comparisons = Then Sums (Level (Less ∷ More ∷ AtMost ∷ AtLeast ∷ []) Sums)
+
+  -- EqualityExpression,
+  abbrev pub Equalities : Tail
+  Equalities = Then Comparisons (Level (Same ∷ NotSame ∷ []) Comparisons)
+
+  -- CoalesceExpression, whose operands are without `&&` and `||`,
+  abbrev pub Coalescings : Tail
+  Coalescings = Level (Coalesce ∷ []) Equalities
+
+  -- LogicalANDExpression,
+  abbrev pub Conjunctions : Tail
+  Conjunctions = Level (AndAnd ∷ []) Equalities
+
+  -- LogicalORExpression,
+  abbrev pub Disjunctions : Tail
+  Disjunctions = Level (OrOr ∷ []) (Then Equalities Conjunctions)
+
+  -- ShortCircuitExpression: `??` does not mix with `&&` and `||`
+  pub data ShortCircuit : Part → Spot → Part → Spot → Type 0 where
+    coalescing : {x y z : Part} {p a q : Spot} → Equalities x p y a → Sees (is Coalesce) a → Coalescings y a z q → ShortCircuit x p z q
+    logical : {x y z u : Part} {p a b q : Spot} → Equalities x p y a → SeesNot (is Coalesce) a → Conjunctions y a z b → Disjunctions z b u q → ShortCircuit x p u q
+
+  -- ConditionalExpression
+  pub data Conditional : Part → Spot → Part → Spot → Type 0 where
+    choice : {x c y z : Part} {p a b d e q : Spot} → ShortCircuit x p c a → Takes (is Question) a b → inside Expression b y d → Takes (is Colon) d e → inside Expression e z q →
+        Conditional x p (node_from kinds.Cond c (c ∷ y ∷ z ∷ []) q) (one_more q)
+    no_choice : {x y : Part} {p q : Spot} → ShortCircuit x p y q → SeesNot (is Question) q → Conditional x p y q
+
+  -- AssignmentExpression, behind what calls and members may follow: only that may stand to the left of `=`
+  pub data Assignment : Part → Spot → Part → Spot → Type 0 where
+    assigned : {x y : Part} {p a q : Spot} → Takes (among assignments) p a → inside Expression a y q → Assignment x p (node_from (operator_kind (class_of p.rest)) x (x ∷ y ∷ []) q) (one_more q)
+    not_assigned : {x y z : Part} {p a q : Spot} → SeesNot (among assignments) p → Postfix x p y a → Conditional y a z q → Assignment x p z q
+
+  -- ---- expressions
+
+  -- What was read up to here are no parameters in front of a `=>`.
+  abbrev pub NoArrow : Spot → Spot → Type 0
+  NoArrow p a = (ns : List Named) → ArrowParameters p ns a → SeesNot (on_line (Arrow ∷ [])) a
+
+  -- an expression without `,`
+  pub data ExpressionForm : Spot → Part → Spot → Type 0 where
+    arrow : {p q : Spot} {x : Part} → ArrowFunction p x q → ExpressionForm p x q
+    prefix_first : {p a q : Spot} {x y : Part} → Sees (among prefix_operators) p → inside Prefix p x a → Conditional x a y q → ExpressionForm p y q
+    simple_first : {p a b q : Spot} {x y z : Part} → Simple p x a → NoArrow p a → Calls x a y b → Assignment y b z q → ExpressionForm p z q

@@ -1,7 +1,7 @@
-pub mod Classes
-pub mod Work
-pub mod Rules
+pub mod Spots
 pub mod Expressions
 pub mod Statements
 pub mod Literals
-pub mod Grammar
+pub mod Derives
+pub mod Exactly
+pub mod FirstBad

@@ -1,79 +1,47 @@
--- The rules of literals and of texts of arguments, which are no scripts but values that a host hands over.
+-- Literals and arguments by cases.
 -- This project's own, within ECMA-262's literals; docs/SCRIPTS.md, "Literals and arguments".
-use Rattle.std.specs.Prelude.{List, [], ◌∷◌}
+use Rattle.std.specs.Prelude.{List, [], ◌∷◌, map}
 use Rattle.js_syntax.specs.declared.kind.Kind.TheVariants as kinds
-use Rattle.js_grammar.specs.declared.class.Class.{Class}
-use Rattle.js_grammar.specs.declared.class.Class.TheVariants.{End, Num, Text, Undefined, Null, True, False, BraceOpen, BraceClose, ParenOpen, ParenClose, BracketOpen, BracketClose, Minus, Colon}
-use Rattle.js_grammar.specs.declared.form.Form.TheVariants.{Literal}
-use Rattle.js_grammar.specs.Rules.{Rule, nothing_more, take, act, inside, ◌▸◌, either, many, refuse, sees_other, sees_word, sees_key, sees_nonzero, sees_passing, open_form, close, name_it, key, value}
-use Rattle.js_grammar.specs.Expressions.{at, token, comma_before, leaf, number_leaf, text_leaf}
+use Rattle.parser_rules.specs.declared.class.Class.TheVariants.{End, Num, Text, Undefined, Null, True, False, BraceOpen, BraceClose, ParenOpen, ParenClose, BracketOpen, BracketClose, Minus, Colon, Comma}
+use Rattle.parser_rules.specs.declared.form.Form.{Form}
+use Rattle.parser_rules.specs.declared.form.Form.TheVariants as forms
+use Rattle.parser_rules.specs.Work.{Part}
+use Rattle.parser_rules.specs.Rules.{kind_passes, is_word_kind, is_key_kind, is_nonzero, is_passing}
+use Rattle.js_grammar.specs.Spots.{Spot, Reading, Named, is, other_than, Sees, SeesNot, Takes, keyed_at, named_at, number_of, one_more, node, with_name, with_names, with_value, name_node, Many, Followed}
 
--- what a literal may begin with
-abbrev pub literal_begins : List Class
-literal_begins = Num ∷ Text ∷ Undefined ∷ Null ∷ True ∷ False ∷ Minus ∷ BracketOpen ∷ BraceOpen ∷ []
+-- `inside` reads what stands one level further inside
+module _ (inside : Form → Reading Part) where
+  -- a key with its value
+  pub data LiteralProperty : Spot → Named × Part → Spot → Type 0 where
+    literal_property : {p a b q : Spot} {x : Part} → Takes (kind_passes is_key_kind) p a → Takes (is Colon) a b → inside forms.Literal b x q → LiteralProperty p (keyed_at p, x) q
 
--- a number other than 0: there is no -0
-unfoldable pub negated_number : Rule
-negated_number = act (open_form kinds.Num) ▸ act value ▸ take sees_nonzero ▸ act close
+  pub data LiteralForm : Spot → Part → Spot → Type 0 where
+    number : {p q : Spot} → Takes (is Num) p q → LiteralForm p (with_value (number_of p.rest) (node kinds.Num p [] q)) (one_more q)
+    text : {p q : Spot} → Takes (is Text) p q → LiteralForm p (with_name (named_at p) (node kinds.Text p [] q)) (one_more q)
+    undefined : {p q : Spot} → Takes (is Undefined) p q → LiteralForm p (node kinds.Undefined p [] q) (one_more q)
+    null : {p q : Spot} → Takes (is Null) p q → LiteralForm p (node kinds.Null p [] q) (one_more q)
+    true_word : {p q : Spot} → Takes (is True) p q → LiteralForm p (node kinds.True p [] q) (one_more q)
+    false_word : {p q : Spot} → Takes (is False) p q → LiteralForm p (node kinds.False p [] q) (one_more q)
+    -- a number other than 0 behind a `-`: there is no -0
+    negative : {p a q : Spot} → Takes (is Minus) p a → Takes is_nonzero a q →
+        LiteralForm p (node kinds.Minus p (with_value (number_of a.rest) (node kinds.Num a [] q) ∷ []) (one_more q)) (one_more (one_more q))
+    array : {p a b q : Spot} {xs : List Part} →
+        Takes (is BracketOpen) p a → Many (other_than (BracketClose ∷ [])) (Followed (is Comma) (is BracketClose) (inside forms.Literal)) a xs b → Takes (is BracketClose) b q →
+        LiteralForm p (node kinds.Array p xs q) (one_more q)
+    object : {p a b q : Spot} {ps : List (Named × Part)} →
+        Takes (is BraceOpen) p a → Many (other_than (BraceClose ∷ [])) (Followed (is Comma) (is BraceClose) LiteralProperty) a ps b → Takes (is BraceClose) b q →
+        LiteralForm p (with_names (map (λ (e : Named × Part). e.0) ps) (node kinds.Object p (map (λ (e : Named × Part). e.1) ps) q)) (one_more q)
 
-unfoldable pub negative : Rule
-negative = act (open_form kinds.Minus) ▸ token Minus ▸ negated_number ▸ act close
+  -- a literal, or `W(N)`, where W says what is passed and N may be any word; it has the tree of a call
+  pub data Argument : Spot → Part → Spot → Type 0 where
+    literal : {p q : Spot} {x : Part} → SeesNot is_passing p → inside forms.Literal p x q → Argument p x q
+    passing : {p a b c q : Spot} → Takes is_passing p a → Takes (is ParenOpen) (one_more a) b → Takes (kind_passes is_word_kind) b c → Takes (is ParenClose) (one_more c) q →
+        Argument p (node kinds.Call p (name_node p a ∷ name_node b c ∷ []) q) (one_more q)
 
-unfoldable pub constant_word : Rule
-constant_word =
-    either (at Undefined) (leaf kinds.Undefined Undefined)
-    (either (at Null) (leaf kinds.Null Null)
-    (either (at True) (leaf kinds.True True)
-    (either (at False) (leaf kinds.False False) refuse)))
+-- a text of one literal
+pub data LiteralText (inside : Form → Reading Part) : Spot → List Part → Spot → Type 0 where
+  literal_text : {p q : Spot} {x : Part} → inside forms.Literal p x q → Sees (is End) q → LiteralText inside p (x ∷ []) q
 
-unfoldable pub literal_element : Rule
-literal_element = inside Literal ▸ comma_before BracketClose
-
--- an array of literals
-unfoldable pub literal_array : Rule
-literal_array =
-    act (open_form kinds.Array) ▸ token BracketOpen ▸ many (sees_other (BracketClose ∷ [])) literal_element ▸ token BracketClose ▸ act close
-
--- a key with its value; a name alone is none
-unfoldable pub literal_property : Rule
-literal_property = act key ▸ take sees_key ▸ token Colon ▸ inside Literal ▸ comma_before BraceClose
-
--- an object of keys and literals
-unfoldable pub literal_object : Rule
-literal_object =
-    act (open_form kinds.Object) ▸ token BraceOpen ▸ many (sees_other (BraceClose ∷ [])) literal_property ▸ token BraceClose ▸ act close
-
-unfoldable pub literal : Rule
-literal =
-    either (at Num) number_leaf
-    (either (at Text) text_leaf
-    (either (at Minus) negative
-    (either (at BracketOpen) literal_array
-    (either (at BraceOpen) literal_object constant_word))))
-
--- ---- texts
-
-unfoldable pub text_end : Rule
-text_end = either (at End) nothing_more refuse
-
--- a text of one literal, in a frame that was opened for it
-unfoldable pub literal_text : Rule
-literal_text = inside Literal ▸ text_end ▸ act close
-
--- a word that says what is passed, and the word behind it
-unfoldable pub passing_word : Rule
-passing_word = act (open_form kinds.Name) ▸ act name_it ▸ take sees_passing ▸ act close
-
-unfoldable pub passed_name : Rule
-passed_name = act (open_form kinds.Name) ▸ act name_it ▸ take sees_word ▸ act close
-
--- `W(N)`: it has the tree of a call, where N may be any word
-unfoldable pub passing : Rule
-passing = act (open_form kinds.Call) ▸ passing_word ▸ token ParenOpen ▸ passed_name ▸ token ParenClose ▸ act close
-
-unfoldable pub argument : Rule
-argument = either sees_passing passing (inside Literal) ▸ comma_before End
-
--- a text of arguments, maybe none, in a frame that was opened for them
-unfoldable pub arguments_text : Rule
-arguments_text = many (sees_other (End ∷ [])) argument ▸ act close
+-- a text of arguments, maybe none
+abbrev pub ArgumentsText : (Form → Reading Part) → Spot → List Part → Spot → Type 0
+ArgumentsText inside = Many (other_than (End ∷ [])) (Followed (is Comma) (is End) (Argument inside))

@@ -1,214 +1,150 @@
--- The rules of statements and declarations.
+-- Statements and declarations by cases.
 -- ECMA-262, Statements and Declarations; Automatic Semicolon Insertion; docs/SCRIPTS.md, "Statements".
-use Rattle.std.specs.Prelude.{List, [], ◌∷◌}
+use Rattle.std.specs.Prelude.{List, [], ◌∷◌, map, Option, None, Some}
 use Rattle.js_syntax.specs.declared.kind.Kind.{Kind}
 use Rattle.js_syntax.specs.declared.kind.Kind.TheVariants as kinds
-use Rattle.js_grammar.specs.declared.class.Class.{Class}
-use Rattle.js_grammar.specs.declared.class.Class.TheVariants.{End, Name, Num, Text, Let, Const, Function, If, Else, While, For, Break, Continue, Return, Throw, Try, Catch, Finally, TypeOf, Void, This, Undefined, Null, True, False, New, BraceOpen, BraceClose, ParenOpen, ParenClose, BracketOpen, Semicolon, Comma, Plus, Minus, PlusPlus, MinusMinus, Not, Equals}
-use Rattle.js_grammar.specs.declared.form.Form.TheVariants.{Expression, Statement, Item, Block}
-use Rattle.js_grammar.specs.Rules.{Rule, Test, nothing_more, take, act, inside, ◌▸◌, either, many, refuse, sees, sees_other, after_line, may_end, open_form, close, name_it, declare, omit}
-use Rattle.js_grammar.specs.Expressions.{at, token, expression_list, item_list, declared_name, own_name, parameters, body}
+use Rattle.parser_rules.specs.declared.class.Class.{Class}
+use Rattle.parser_rules.specs.declared.class.Class.TheVariants.{End, Name, Num, Text, Let, Const, Function, If, Else, While, For, Break, Continue, Return, Throw, Try, Catch, Finally, TypeOf, Void, This, Undefined, Null, True, False, New, BraceOpen, BraceClose, ParenOpen, ParenClose, BracketOpen, Semicolon, Comma, Plus, Minus, PlusPlus, MinusMinus, Not, Equals}
+use Rattle.parser_rules.specs.declared.form.Form.{Form}
+use Rattle.parser_rules.specs.declared.form.Form.TheVariants as forms
+use Rattle.parser_rules.specs.Work.{Part}
+use Rattle.parser_rules.specs.Rules.{is_line, ends_statement}
+use Rattle.js_grammar.specs.Spots.{Spot, Reading, Named, is, among, Sees, SeesNot, Takes, named_at, one_more, node, with_name, with_name_if_any, with_names, absent, Many}
+use Rattle.js_grammar.specs.Expressions.{Declares, Parameters, ExpressionList, Items, Body}
 
--- ---- what statements begin with
-
--- an ExpressionStatement begins with neither `{` nor `function`
+-- what an ExpressionStatement begins with: neither `{` nor `function`
 abbrev pub begins_expression_statement : List Class
 begins_expression_statement =
     Name ∷ Num ∷ Text ∷ This ∷ Undefined ∷ Null ∷ True ∷ False ∷ New ∷ ParenOpen ∷ BracketOpen ∷ Not ∷ Minus ∷ Plus ∷ TypeOf ∷ Void ∷ PlusPlus ∷ MinusMinus ∷ []
 
-abbrev pub statement_begins : List Class
-statement_begins =
-    Semicolon ∷ BraceOpen ∷ If ∷ While ∷ For ∷ Break ∷ Continue ∷ Return ∷ Throw ∷ Try ∷ begins_expression_statement
+-- The end of a statement: `;`, or nothing where no `;` comes: in front of `}`, at the end of the text, and where a line terminator stands before the token in view.
+-- That token continues nothing, since each form is read as far as it goes.
+pub data Ends : Spot → Spot → Type 0 where
+  semicolon : {p q : Spot} → Takes (is Semicolon) p q → Ends p q
+  nothing_there : {p : Spot} → SeesNot (is Semicolon) p → Sees ends_statement p → Ends p p
 
-abbrev pub item_begins : List Class
-item_begins = Let ∷ Const ∷ Function ∷ statement_begins
+-- a `break` or `continue` ends at a line terminator, also in front of a `;`
+pub data JumpEnds : Spot → Spot → Type 0 where
+  line_end : {p : Spot} → Sees is_line p → JumpEnds p p
+  on_its_line : {p q : Spot} → SeesNot is_line p → Ends p q → JumpEnds p q
 
--- ---- ends
+-- `inside` reads what stands one level further inside
+module _ (inside : Form → Reading Part) where
+  -- ---- declarations
 
--- A `;`, or the end of the statement without one. What was read before is the longest that can be read, so the token in view continues nothing.
-unfoldable pub ends : Rule
-ends = either (at Semicolon) (token Semicolon) (either may_end nothing_more refuse)
+  -- LexicalBinding of `let`, without patterns
+  pub data LetBinding : Spot → Named × Part → Spot → Type 0 where
+    with_initialiser : {p a b q : Spot} {n : Named} {x : Part} → Declares p n a → Takes (is Equals) a b → inside forms.Expression b x q → LetBinding p (n, x) q
+    without_initialiser : {p q : Spot} {n : Named} → Declares p n q → SeesNot (is Equals) q → LetBinding p (n, absent q) (one_more q)
 
--- an expression, or nothing in front of a token of this class
-unfoldable pub expression_before : Class → Rule
-expression_before closing = either (at closing) (act omit) expression_list
+  -- a constant has its value at once
+  pub data ConstBinding : Spot → Named × Part → Spot → Type 0 where
+    const_binding : {p a b q : Spot} {n : Named} {x : Part} → Declares p n a → Takes (is Equals) a b → inside forms.Expression b x q → ConstBinding p (n, x) q
 
--- ---- declarations
+  pub data FurtherBinding (Binding : Reading (Named × Part)) : Spot → Named × Part → Spot → Type 0 where
+    further_binding : {p a q : Spot} {b : Named × Part} → Takes (is Comma) p a → Binding a b q → FurtherBinding Binding p b q
 
-unfoldable pub initialiser : Rule
-initialiser = token Equals ▸ inside Expression
+  -- LexicalDeclaration, without its end: the word, and one or more bindings with `,` between
+  pub data Bindings (word : Class) (Binding : Reading (Named × Part)) : Spot → List (Named × Part) → Spot → Type 0 where
+    bindings : {p a b q : Spot} {x : Named × Part} {xs : List (Named × Part)} → Takes (is word) p a → Binding a x b → Many (is Comma) (FurtherBinding Binding) b xs q → Bindings word Binding p (x ∷ xs) q
 
--- LexicalBinding, without patterns
-unfoldable pub let_binding : Rule
-let_binding = declared_name ▸ either (at Equals) initialiser (act omit)
+  abbrev pub Lets : Spot → List (Named × Part) → Spot → Type 0
+  Lets = Bindings Let LetBinding
 
--- a constant has its value at once
-unfoldable pub const_binding : Rule
-const_binding = declared_name ▸ initialiser
+  abbrev pub Consts : Spot → List (Named × Part) → Spot → Type 0
+  Consts = Bindings Const ConstBinding
 
-unfoldable pub further_let : Rule
-further_let = token Comma ▸ let_binding
+  -- the node of a declaration that ends at a spot
+  abbrev pub declared : Kind → Spot → List (Named × Part) → Spot → Part
+  declared kind p xs q = with_names (map (λ (e : Named × Part). e.0) xs) (node kind p (map (λ (e : Named × Part). e.1) xs) q)
 
-unfoldable pub further_const : Rule
-further_const = token Comma ▸ const_binding
+  -- ---- parts of statements
 
--- LexicalDeclaration, without its end
-unfoldable pub let_list : Rule
-let_list = act (open_form kinds.Let) ▸ token Let ▸ let_binding ▸ many (at Comma) further_let
+  -- a condition in parentheses
+  pub data Condition : Spot → Part → Spot → Type 0 where
+    condition : {p a b q : Spot} {x : Part} → Takes (is ParenOpen) p a → ExpressionList inside a x b → Takes (is ParenClose) b q → Condition p x q
 
-unfoldable pub const_list : Rule
-const_list = act (open_form kinds.Const) ▸ token Const ▸ const_binding ▸ many (at Comma) further_const
+  -- an `else` belongs to the nearest `if` that can take it: that one takes it where it stands
+  pub data Alternative : Spot → Part → Spot → Type 0 where
+    else_branch : {p a q : Spot} {x : Part} → Takes (is Else) p a → inside forms.Statement a x q → Alternative p x q
+    no_else : {p : Spot} → SeesNot (is Else) p → Alternative p (absent p) (one_more p)
 
--- FunctionDeclaration
-unfoldable pub function_declaration : Rule
-function_declaration = act (open_form kinds.FunctionDecl) ▸ token Function ▸ own_name ▸ parameters ▸ body ▸ act close
+  -- an expression, or nothing in front of a token of this class
+  pub data ExpressionBefore (closing : Class) : Spot → Part → Spot → Type 0 where
+    nothing_before : {p : Spot} → Sees (is closing) p → ExpressionBefore closing p (absent p) (one_more p)
+    expression_before : {p q : Spot} {x : Part} → SeesNot (is closing) p → ExpressionList inside p x q → ExpressionBefore closing p x q
 
--- ---- statements
+  -- what a `for` begins with
+  pub data ForStart : Spot → Part → Spot → Type 0 where
+    for_let : {p q : Spot} {xs : List (Named × Part)} → Lets p xs q → ForStart p (declared kinds.Let p xs q) (one_more q)
+    for_const : {p q : Spot} {xs : List (Named × Part)} → Consts p xs q → ForStart p (declared kinds.Const p xs q) (one_more q)
+    for_expression : {p q : Spot} {x : Part} → SeesNot (among (Let ∷ Const ∷ [])) p → ExpressionBefore Semicolon p x q → ForStart p x q
 
--- EmptyStatement
-unfoldable pub empty_statement : Rule
-empty_statement = act (open_form kinds.Empty) ▸ token Semicolon ▸ act close
+  -- what stands behind `return`: nothing in front of `;`, `}` and the end, and behind a line terminator, which ends the statement
+  pub data Returned : Spot → Part → Spot → Type 0 where
+    line_behind : {p : Spot} → Sees is_line p → Returned p (absent p) (one_more p)
+    nothing_returned : {p q : Spot} → SeesNot is_line p → Sees (among (Semicolon ∷ BraceClose ∷ End ∷ [])) p → Ends (one_more p) q → Returned p (absent p) q
+    value_returned : {p a q : Spot} {x : Part} → SeesNot is_line p → SeesNot (among (Semicolon ∷ BraceClose ∷ End ∷ [])) p → ExpressionList inside p x a → Ends a q → Returned p x q
 
--- Block
-unfoldable pub block : Rule
-block = act (open_form kinds.Block) ▸ token BraceOpen ▸ item_list ▸ token BraceClose ▸ act close
+  -- CatchParameter, which may be missing
+  pub data CatchName : Spot → Option Named → Spot → Type 0 where
+    caught : {p a b q : Spot} → Takes (is ParenOpen) p a → Takes (is Name) a b → Takes (is ParenClose) b q → CatchName p (Some (named_at a)) q
+    nothing_caught : {p : Spot} → SeesNot (is ParenOpen) p → CatchName p None p
 
--- a condition in parentheses
-unfoldable pub condition : Rule
-condition = token ParenOpen ▸ expression_list ▸ token ParenClose
+  pub data Finaliser : Spot → Part → Spot → Type 0 where
+    finaliser : {p a q : Spot} {x : Part} → Takes (is Finally) p a → inside forms.Block a x q → Finaliser p x q
 
-unfoldable pub else_branch : Rule
-else_branch = token Else ▸ inside Statement
+  pub data FinaliserIfAny : Spot → Part → Spot → Type 0 where
+    some_finaliser : {p q : Spot} {x : Part} → Finaliser p x q → FinaliserIfAny p x q
+    no_finaliser : {p : Spot} → SeesNot (is Finally) p → FinaliserIfAny p (absent p) (one_more p)
 
-unfoldable pub alternative : Rule
-alternative = either (at Else) else_branch (act omit)
+  -- Block
+  pub data BlockForm : Spot → Part → Spot → Type 0 where
+    block : {p a b q : Spot} {xs : List Part} → Takes (is BraceOpen) p a → Items inside a xs b → Takes (is BraceClose) b q → BlockForm p (node kinds.Block p xs q) (one_more q)
 
--- IfStatement: an `else` belongs to the nearest `if` that can take it, since that one takes it first
-unfoldable pub if_statement : Rule
-if_statement =
-    act (open_form kinds.If) ▸ token If ▸ condition ▸ inside Statement ▸ alternative ▸ act close
+  -- ---- statements
 
--- WhileStatement
-unfoldable pub while_statement : Rule
-while_statement = act (open_form kinds.While) ▸ token While ▸ condition ▸ inside Statement ▸ act close
+  pub data StatementForm : Spot → Part → Spot → Type 0 where
+    -- EmptyStatement
+    empty : {p q : Spot} → Takes (is Semicolon) p q → StatementForm p (node kinds.Empty p [] q) (one_more q)
+    block_statement : {p q : Spot} {x : Part} → BlockForm p x q → StatementForm p x q
+    -- IfStatement
+    if_statement : {p a b c q : Spot} {e x y : Part} → Takes (is If) p a → Condition a e b → inside forms.Statement b x c → Alternative c y q →
+        StatementForm p (node kinds.If p (e ∷ x ∷ y ∷ []) q) (one_more q)
+    -- WhileStatement
+    while_statement : {p a b q : Spot} {e x : Part} → Takes (is While) p a → Condition a e b → inside forms.Statement b x q →
+        StatementForm p (node kinds.While p (e ∷ x ∷ []) q) (one_more q)
+    -- ForStatement; no `;` is left out in its head
+    for_statement : {p a b c d e f g h q : Spot} {i t u x : Part} →
+        Takes (is For) p a → Takes (is ParenOpen) a b → ForStart b i c → Takes (is Semicolon) c d → ExpressionBefore Semicolon d t e → Takes (is Semicolon) e f →
+        ExpressionBefore ParenClose f u g → Takes (is ParenClose) g h → inside forms.Statement h x q →
+        StatementForm p (node kinds.For p (i ∷ t ∷ u ∷ x ∷ []) q) (one_more q)
+    -- BreakStatement and ContinueStatement, without labels
+    break_statement : {p a q : Spot} → Takes (is Break) p a → JumpEnds a q → StatementForm p (node kinds.Break p [] q) (one_more q)
+    continue_statement : {p a q : Spot} → Takes (is Continue) p a → JumpEnds a q → StatementForm p (node kinds.Continue p [] q) (one_more q)
+    -- ReturnStatement
+    return_statement : {p a q : Spot} {x : Part} → Takes (is Return) p a → Returned a x q → StatementForm p (node kinds.Return p (x ∷ []) q) (one_more q)
+    -- ThrowStatement: no line terminator stands behind `throw`
+    throw_statement : {p a b q : Spot} {x : Part} → Takes (is Throw) p a → SeesNot is_line a → ExpressionList inside a x b → Ends b q →
+        StatementForm p (node kinds.Throw p (x ∷ []) q) (one_more q)
+    -- TryStatement, with `catch` and maybe `finally`,
+    try_catch : {p a b c d e q : Spot} {x y z : Part} {o : Option Named} →
+        Takes (is Try) p a → inside forms.Block a x b → Takes (is Catch) b c → CatchName c o d → inside forms.Block d y e → FinaliserIfAny e z q →
+        StatementForm p (with_name_if_any o (node kinds.Try p (x ∷ y ∷ z ∷ []) q)) (one_more q)
+    -- or with `finally` alone
+    try_finally : {p a b q : Spot} {x z : Part} →
+        Takes (is Try) p a → inside forms.Block a x b → Finaliser (one_more b) z q →
+        StatementForm p (node kinds.Try p (x ∷ absent b ∷ z ∷ []) q) (one_more q)
+    -- ExpressionStatement
+    expression_statement : {p a q : Spot} {x : Part} → Sees (among begins_expression_statement) p → ExpressionList inside p x a → Ends a q →
+        StatementForm p (node kinds.ExprStmt p (x ∷ []) q) (one_more q)
 
-unfoldable pub let_start : Rule
-let_start = let_list ▸ act close
-
-unfoldable pub const_start : Rule
-const_start = const_list ▸ act close
-
--- what a `for` begins with; no `;` is left out there
-unfoldable pub for_start : Rule
-for_start =
-    either (at Let) let_start
-    (either (at Const) const_start
-    (expression_before Semicolon))
-
-unfoldable pub for_head : Rule
-for_head =
-    token ParenOpen ▸ for_start ▸ token Semicolon ▸ expression_before Semicolon ▸ token Semicolon ▸ expression_before ParenClose ▸ token ParenClose
-
--- ForStatement
-unfoldable pub for_statement : Rule
-for_statement =
-    act (open_form kinds.For) ▸ token For ▸ for_head ▸ inside Statement ▸ act close
-
--- BreakStatement and ContinueStatement, without labels: a line terminator ends them
-unfoldable pub line_or_end : Rule
-line_or_end = either after_line nothing_more ends
-
-unfoldable pub jump : Kind → Class → Rule
-jump kind class = act (open_form kind) ▸ token class ▸ line_or_end ▸ act close
-
-unfoldable pub ended_expression : Rule
-ended_expression = expression_list ▸ ends
-
-unfoldable pub nothing_returned : Rule
-nothing_returned = act omit ▸ ends
-
--- what a `return` gives: nothing in front of `;`, `}` and the end, and behind a line terminator, which ends the statement
-unfoldable pub returned : Rule
-returned =
-    either after_line (act omit)
-    (either (sees (Semicolon ∷ BraceClose ∷ End ∷ [])) nothing_returned ended_expression)
-
--- ReturnStatement
-unfoldable pub return_statement : Rule
-return_statement = act (open_form kinds.Return) ▸ token Return ▸ returned ▸ act close
-
-unfoldable pub thrown : Rule
-thrown = either after_line refuse ended_expression
-
--- ThrowStatement: no line terminator stands behind `throw`
-unfoldable pub throw_statement : Rule
-throw_statement = act (open_form kinds.Throw) ▸ token Throw ▸ thrown ▸ act close
-
-unfoldable pub caught_name : Rule
-caught_name = token ParenOpen ▸ own_name ▸ token ParenClose
-
--- CatchParameter, which may be missing
-unfoldable pub catch_name : Rule
-catch_name = either (at ParenOpen) caught_name nothing_more
-
-unfoldable pub finaliser : Rule
-finaliser = token Finally ▸ inside Block
-
-unfoldable pub finaliser_if_any : Rule
-finaliser_if_any = either (at Finally) finaliser (act omit)
-
-unfoldable pub catch_clause : Rule
-catch_clause = token Catch ▸ catch_name ▸ inside Block ▸ finaliser_if_any
-
-unfoldable pub only_finaliser : Rule
-only_finaliser = act omit ▸ finaliser
-
--- Catch and Finally: one of them is there
-unfoldable pub handlers : Rule
-handlers =
-    either (at Catch) catch_clause only_finaliser
-
--- TryStatement
-unfoldable pub try_statement : Rule
-try_statement = act (open_form kinds.Try) ▸ token Try ▸ inside Block ▸ handlers ▸ act close
-
--- ExpressionStatement
-unfoldable pub expression_statement : Rule
-expression_statement = act (open_form kinds.ExprStmt) ▸ ended_expression ▸ act close
-
--- the statements that jump or throw, or are an expression
-unfoldable pub simple_statement : Rule
-simple_statement =
-    either (at Break) (jump kinds.Break Break)
-    (either (at Continue) (jump kinds.Continue Continue)
-    (either (at Return) return_statement
-    (either (at Throw) throw_statement
-    (either (sees begins_expression_statement) expression_statement refuse))))
-
-unfoldable pub statement : Rule
-statement =
-    either (at Semicolon) empty_statement
-    (either (at BraceOpen) block
-    (either (at If) if_statement
-    (either (at While) while_statement
-    (either (at For) for_statement
-    (either (at Try) try_statement simple_statement)))))
-
-unfoldable pub let_declaration : Rule
-let_declaration = let_list ▸ ends ▸ act close
-
-unfoldable pub const_declaration : Rule
-const_declaration = const_list ▸ ends ▸ act close
-
--- StatementListItem: declarations stand only in a list
-unfoldable pub item : Rule
-item =
-    either (at Let) let_declaration
-    (either (at Const) const_declaration
-    (either (at Function) function_declaration statement))
-
--- ---- scripts
-
--- Script, in a frame that was opened for it
-unfoldable pub script : Rule
-script = many (sees_other (End ∷ [])) (inside Item) ▸ act close
+  -- StatementListItem: declarations stand only in a list
+  pub data ItemForm : Spot → Part → Spot → Type 0 where
+    let_declaration : {p a q : Spot} {xs : List (Named × Part)} → Lets p xs a → Ends a q → ItemForm p (declared kinds.Let p xs q) (one_more q)
+    const_declaration : {p a q : Spot} {xs : List (Named × Part)} → Consts p xs a → Ends a q → ItemForm p (declared kinds.Const p xs q) (one_more q)
+    -- FunctionDeclaration
+    function_declaration : {p a b c q : Spot} {ns : List Named} {x : Part} →
+        Takes (is Function) p a → Takes (is Name) a b → Parameters b ns c → Body inside c x q →
+        ItemForm p (with_name (named_at a) (with_names ns (node kinds.FunctionDecl p (x ∷ []) q))) (one_more q)
+    statement_item : {p q : Spot} {x : Part} → StatementForm p x q → ItemForm p x q

@@ -1,13 +1,14 @@
-//! The grammar of scripts: once as a table of rules, which a reader of one token carries out.
+//! The grammar of scripts by cases, and that it is the grammar that the parser carries out.
 //!
-//! Contracts see tokens as a list, a rule as the steps that it lists, and a form under construction as what it has so far.
-//! Rely on: a rule takes tokens from the left with one of them in view, and each list of tokens has one answer.
-//! Over `js_syntax` and `js_lexer`; under the parser.
-//! Begin with `specs/Statements.antt` and `specs/Expressions.antt`, then `specs/Rules.antt`.
+//! Contracts see tokens as lists, and a tree as `js_syntax` has it.
+//! Rely on: tokens derive a tree exactly where the grammar accepts them with it, so they have at most one.
+//! Over `parser_rules` and `first_bad`; under `js_parser`, `js_scripts` and `js_literals`.
+//! Begin with `specs/Derives.antt`, then `specs/Statements.antt` and `specs/Expressions.antt`.
 #![tactic(auto)]
 
-mod class;
-mod form;
+mod laws;
 
-pub use class::Class;
-pub use form::{Cover, Form, Why};
+pub use laws::{
+    arguments_derive, arguments_have_a_first_bad_token, literals_derive,
+    literals_have_a_first_bad_token, scripts_derive, scripts_have_a_first_bad_token,
+};

@@ -10,8 +10,7 @@ ghost use Rattle.js_lexer.specs.Element.{IsReading};
 use crate::front::{Element, front};
 use crate::places::{chars_of, place_in, places_of};
 use crate::{SyntaxFault, Token, TokenKind, Tokens};
-use item_list::Items;
-use ivm_text::{NoMemory, Refusal, RefusalKind, Units, text_of};
+use ivm_text::{Items, NoMemory, Refusal, RefusalKind, Units, text_of};
 use std::alloc::Global;
 
 /// The tokens of a text of fewer than 2^32 bytes.

@@ -2,8 +2,7 @@
 
 ghost use Rattle.std.specs.Prelude.{◌≡◌};
 
-use item_list::Items;
-use ivm_text::{NoMemory, Refusal, Units};
+use ivm_text::{Items, NoMemory, Refusal, Units};
 use std::alloc::AllocError;
 
 /// What a token is.

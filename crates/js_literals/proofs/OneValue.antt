@@ -6,10 +6,10 @@ use Rattle.ivm_text.specs.declared.copies.Leaf.TheVariants as leaves
 use Rattle.js_syntax.specs.Tree.{Trees}
 use Rattle.js_lexer.specs.declared.token.Token.{Token}
 use Rattle.js_lexer.proofs.OneReading.{has_one_reading}
-use Rattle.js_grammar.specs.Grammar.{limit}
-use Rattle.js_derivation.specs.Exactly.{Derivation}
-use Rattle.js_derivation.specs.Derives.{DerivesLiteral, DerivesArguments}
-use Rattle.js_derivation.proofs.Grammar.{literals_same, arguments_same}
+use Rattle.parser_rules.specs.Grammar.{limit}
+use Rattle.js_grammar.specs.Exactly.{Derivation}
+use Rattle.js_grammar.specs.Derives.{DerivesLiteral, DerivesArguments}
+use Rattle.js_grammar.proofs.Grammar.{literals_same, arguments_same}
 use Rattle.js_parser.specs.Parsed.{HasTree}
 use Rattle.js_literals.specs.Copies.{Tree, nodes_from, AreNodesOf, IsCopyOf, leaf_alone, in_nodes}
 use Rattle.js_literals.specs.Told.{IsArgument, AreEach, Passes, form_of_name, parts_of_text}

@@ -11,9 +11,9 @@ use Rattle.std.proofs.lemmas.Cmp.{nat_list_eq_equiv}
 use Rattle.std.proofs.lemmas.List.{length-map, length-drop, nil_from_length}
 use Rattle.js_syntax.specs.Shape.{AreBelow}
 use Rattle.std.proofs.lemmas.Map.Keys.{IsDistinct-IsPermutation}
-use Rattle.key_order.specs.Keys.{is_key, with_value, HasDistinctKeys}
-use Rattle.key_order.specs.KeyOrder.{rank_of, key_order}
-use Rattle.key_order.proofs.SortLemmas.{sorted_map}
+use Rattle.ivm_text.specs.Keys.{is_key, with_value, HasDistinctKeys}
+use Rattle.ivm_text.specs.KeyOrder.{rank_of, key_order}
+use Rattle.ivm_text.proofs.SortLemmas.{sorted_map}
 use Rattle.js_literals.specs.Copies.{given, pairs_of}
 
 -- ---- a map of the values

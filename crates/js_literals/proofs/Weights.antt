@@ -3,8 +3,8 @@ use Rattle.std.proofs.Common.{◌≡◌, ℕ, suc, ◌+◌, ◌<◌, ◌≤◌, 
 use Rattle.std.specs.Prelude.{filter, zip, nat_le}
 use Rattle.std.specs.Map.{values_of}
 use Rattle.js_syntax.specs.Tree.{Trees, nothing, tree}
-use Rattle.key_order.specs.Keys.{is_key, with_value}
-use Rattle.key_order.specs.KeyOrder.{put_by, sorted_by, rank_of}
+use Rattle.ivm_text.specs.Keys.{is_key, with_value}
+use Rattle.ivm_text.specs.KeyOrder.{put_by, sorted_by, rank_of}
 use Rattle.js_literals.specs.Copies.{Tree, side_by_side, parts, given, properties, is_array, is_object, members}
 
 abbrev size : Trees → ℕ

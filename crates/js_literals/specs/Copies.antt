@@ -10,8 +10,8 @@ use Rattle.ivm_text.specs.declared.copies.Leaf.TheVariants as leaves
 use Rattle.js_syntax.specs.declared.kind.Kind.{Kind}
 use Rattle.js_syntax.specs.declared.kind.Kind.TheVariants as kinds
 use Rattle.js_syntax.specs.Tree.{Head, Trees, nothing, tree}
-use Rattle.key_order.specs.Keys.{with_value}
-use Rattle.key_order.specs.KeyOrder.{key_order}
+use Rattle.ivm_text.specs.Keys.{with_value}
+use Rattle.ivm_text.specs.KeyOrder.{key_order}
 
 -- a tree: what its root has, and the trees below
 pub record Tree : Type 0 where

@@ -6,7 +6,7 @@ use Rattle.ivm_text.specs.declared.copies.Copy.{Copy}
 use Rattle.js_syntax.specs.declared.kind.Kind.{Kind}
 use Rattle.js_syntax.specs.declared.kind.Kind.TheVariants as kinds
 use Rattle.js_syntax.specs.Tree.{Trees, nothing, tree}
-use Rattle.js_derivation.specs.Derives.{DerivesLiteral, DerivesArguments}
+use Rattle.js_grammar.specs.Derives.{DerivesLiteral, DerivesArguments}
 use Rattle.js_parser.specs.Parsed.{HasTree}
 use Rattle.js_literals.specs.Copies.{Tree, side_by_side, parts, IsCopyOf}
 use Rattle.js_literals.specs.declared.argument.FormKind.{FormKind}

@@ -2,17 +2,18 @@
 
 ghost use Rattle.std.specs.Prelude.{◌≡◌, ◌<◌, [], ◌∷◌, length, IfOk, unwrap_or, neg_ℤ};
 ghost use Rattle.std.specs.Map.{values_of};
-ghost use Rattle.key_order.specs.Keys.{HasDistinctKeys};
-ghost use Rattle.key_order.specs.KeyOrder.{key_order};
+ghost use Rattle.ivm_text.specs.Keys.{HasDistinctKeys};
+ghost use Rattle.ivm_text.specs.KeyOrder.{key_order};
 ghost use Rattle.js_literals.specs.Copies.{IsCopyOf, AreNodesOf, parts, is_node_kind, is_array, is_object, primitive, constant, is_minus, value_of_first, leaf_at, leaves_from, pairs_from, node_at, members};
 ghost use Rattle.js_literals.specs.View.{tree_at, trees_at, Mentions, AreNumbers, HaveNumbers, pairs_at};
 
 use crate::objects::{entries_of, entry_at};
 use indexmap::IndexMap;
-use item_list::{CloneWhole, Items};
-use ivm_text::{Copy, CopyNode, CopyNodes, Leaf, Leaves, NoMemory, Pairs, Units};
+use ivm_text::{
+    CloneWhole, Copy, CopyNode, CopyNodes, Items, Leaf, Leaves, NoMemory, Pairs, Units,
+    places_in_order,
+};
 use js_syntax::{Kind, Node, Script};
-use key_order::places_in_order;
 use std::alloc::Global;
 
 /// The copy of the literal at a node.

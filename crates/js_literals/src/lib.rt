@@ -2,7 +2,7 @@
 //!
 //! Contracts see bytes as lists, and a copy as its nodes and its root.
 //! Rely on: a copy is that of the literal's tree, and a refusal is that of the tokens or of the grammar.
-//! Over `js_parser`, `key_order` and `ivm_text`; under what reads a host script.
+//! Over `js_parser`, `js_grammar` and `ivm_text`; under no crate yet.
 //! Begin with `specs/Copies.antt`, then `src/copies.rt`.
 #![tactic(auto)]
 

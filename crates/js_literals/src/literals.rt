@@ -8,8 +8,7 @@ ghost use Rattle.js_literals.specs.View.{tree_at, trees_at, AreNumbers};
 
 use crate::argument::{Argument, FormKind};
 use crate::copies::copy_of;
-use item_list::{CloneWhole, Items};
-use ivm_text::{Copy, NoMemory, Units};
+use ivm_text::{CloneWhole, Copy, Items, NoMemory, Units};
 use js_parser::{SyntaxFault, parse_arguments, parse_literal, spells};
 use js_syntax::{Kind, Script};
 use std::alloc::Global;

@@ -1,12 +1,11 @@
 //! The properties of an object.
 
 ghost use Rattle.std.specs.Prelude.{◌≡◌, ◌<◌, [], length, slice_get, zip, IfOk, Some};
-ghost use Rattle.key_order.specs.Keys.{HasDistinctKeys};
+ghost use Rattle.ivm_text.specs.Keys.{HasDistinctKeys};
 ghost use Rattle.js_literals.specs.Copies.{given};
 
 use indexmap::IndexMap;
-use item_list::CloneWhole;
-use ivm_text::{NoMemory, Units};
+use ivm_text::{CloneWhole, NoMemory, Units};
 use js_syntax::Node;
 use std::alloc::Global;
 

@@ -2,7 +2,7 @@
 use Rattle.std.proofs.Common.{◌≡◌, ℕ, ◌+◌, ◌<◌, ◌&&◌, List, [], ◌∷◌, Bool, true, false, length, drop, get_or, refl, sym, ap, arith, add-one, ◌∙◌}
 use Rattle.std.specs.Prelude.{nat_eq}
 use Rattle.std.proofs.Math.Seq.{drop-cons}
-use Rattle.key_order.specs.Keys.{is_key}
+use Rattle.ivm_text.specs.Keys.{is_key}
 
 -- two keys from a place on are the same where their units there are, and the rest
 key_from : (a b : List ℕ) (i : ℕ) → i < length a → i < length b

@@ -4,8 +4,8 @@ use Rattle.std.specs.Prelude.{slice_get, slice_index_or, IfSome}
 use Rattle.std.specs.List.{All}
 use Rattle.std.proofs.lemmas.Option.{slice_get_within, get_or_from_slice_get}
 use Rattle.std.proofs.lemmas.Map.Entries.{All-lookup}
-use Rattle.key_order.specs.Keys.{is_key, value_at}
-use Rattle.key_order.specs.KeyOrder.{index_of}
+use Rattle.ivm_text.specs.Keys.{is_key, value_at}
+use Rattle.ivm_text.specs.KeyOrder.{index_of}
 use Rattle.ivm_text.specs.declared.copies.ErrorKind.{ErrorKind}
 use Rattle.charged_heap.specs.Store.{Store, IsAt, IsText, item_at, kind_of}
 use Rattle.charged_heap.specs.Closed.{IsClosed, IsHeld, IsSound, IsSoundValue}

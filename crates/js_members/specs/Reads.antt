@@ -3,8 +3,8 @@
 use Rattle.std.specs.Prelude.{ℕ, pos, List, [], ◌∷◌, length, slice_get, codes, Option, Some, None, Ok, if◌then◌else◌}
 use Rattle.ivm_text.specs.declared.copies.ErrorKind.{ErrorKind}
 use Rattle.ivm_text.specs.declared.copies.ErrorKind.TheVariants as error
-use Rattle.key_order.specs.Keys.{is_key, value_at}
-use Rattle.key_order.specs.KeyOrder.{index_of}
+use Rattle.ivm_text.specs.Keys.{is_key, value_at}
+use Rattle.ivm_text.specs.KeyOrder.{index_of}
 use Rattle.charged_heap.specs.Store.{Store, item_at}
 use Rattle.charged_heap.specs.Closed.{IsSoundValue}
 use Rattle.charged_heap.specs.declared.builtin.Builtin.TheVariants as builtin

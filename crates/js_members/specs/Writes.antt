@@ -1,8 +1,8 @@
 -- What a write to a member leaves.
 -- ECMA-262, PutValue, without prototypes; docs/SCRIPTS.md, "Members". Cells: docs/PRICES.md, "Cells".
 use Rattle.std.specs.Prelude.{ℕ, ◌+◌, ◌<◌, min, List, [], ◌∷◌, ◌++◌, length, Option, Some, None, Ok, Err, is_some, nat_eq, nat_le, nat_lt, if◌then◌else◌}
-use Rattle.key_order.specs.Keys.{value_at}
-use Rattle.key_order.specs.KeyOrder.{index_of}
+use Rattle.ivm_text.specs.Keys.{value_at}
+use Rattle.ivm_text.specs.KeyOrder.{index_of}
 use Rattle.charged_heap.specs.Price.{charge_of, property_price}
 use Rattle.charged_heap.specs.Store.{Store, IsAt, IsPlain, IsArray, item_at, properties, elements, with_item, with_property, with_place, with_elements}
 use Rattle.charged_heap.specs.declared.price.TheConstants.{ELEMENT_CELLS, GREATEST_TOLD}

@@ -3,7 +3,7 @@
 //! Contracts see a `Heap` as its `Store`, and say what a call gives by one function of that store.
 //! Rely on: a call gives that value, throws that error or is refused with those cells, and nothing else;
 //! a closed heap stays closed however a call ends.
-//! Over `js_ops`, `charged_heap` and `key_order`; under all that evaluates.
+//! Over `js_ops`, `charged_heap` and `ivm_text`; under all that evaluates.
 //! Begin with `specs/Reads.antt`, `specs/Writes.antt` and `specs/Arrays.antt`, then `src/members.rt`.
 #![tactic(auto)]
 

@@ -1,6 +1,6 @@
 //! The members that have names of their own.
 ghost use Rattle.std.specs.Prelude.{◌≡◌, ◌<◌, length, slice_index};
-ghost use Rattle.key_order.specs.Keys.{is_key};
+ghost use Rattle.ivm_text.specs.Keys.{is_key};
 ghost use Rattle.js_members.specs.Reads.{member_name};
 
 use ivm_text::Units;

@@ -1,14 +1,13 @@
 //! What a key reads of a value, before anything is made in the heap.
 ghost use Rattle.std.specs.Prelude.{◌≡◌, ◌<◌, ◌∷◌, [], IfOk, IfSome};
-ghost use Rattle.key_order.specs.declared.order.TheConstants.{INDEX_END};
+ghost use Rattle.ivm_text.specs.declared.key_order.TheConstants.{INDEX_END};
 ghost use Rattle.charged_heap.specs.Closed.{IsSoundValue};
 ghost use Rattle.js_members.specs.Reads.{array_member, array_reading, error_member, error_name, item_reading, or_undefined, reading_of, text_member, text_reading, unit_reading};
 
 use crate::names::member_name;
 use crate::{MemberFault, MemberName};
 use charged_heap::{Builtin, Heap, Item, Value, Values};
-use ivm_text::{ErrorKind, NoMemory, Units};
-use key_order::index_of;
+use ivm_text::{ErrorKind, NoMemory, Units, index_of};
 use std::alloc::Global;
 
 /// What a key reads of a value.

@@ -1,13 +1,12 @@
 //! Where a write to a member goes.
 ghost use Rattle.std.specs.Prelude.{◌≡◌, ◌<◌, IfSome, length};
 ghost use Rattle.charged_heap.specs.Closed.{IsSoundValue};
-ghost use Rattle.key_order.specs.declared.order.TheConstants.{INDEX_END};
+ghost use Rattle.ivm_text.specs.declared.key_order.TheConstants.{INDEX_END};
 ghost use Rattle.js_members.specs.Writes.{element_target, item_target, target_of, FitsTarget};
 
 use crate::MemberFault;
 use charged_heap::{Heap, Item, Value, Values};
-use ivm_text::Units;
-use key_order::index_of;
+use ivm_text::{Units, index_of};
 
 /// Where a write goes.
 #[derive(Debug, Clone, Copy, PartialEq, Eq)]

@@ -1,6 +1,6 @@
 -- When two strings are the same value.
 use Rattle.std.proofs.Common.{◌≡◌, ℕ, List, [], ◌∷◌, Bool, true, Some, IsTrue, refl, sym, ap, ◌∙◌, subst, inl, inr, arith}
-use Rattle.key_order.specs.Keys.{is_key}
+use Rattle.ivm_text.specs.Keys.{is_key}
 use Rattle.charged_heap.specs.Store.{Store, item_at}
 use Rattle.charged_heap.specs.declared.item.Item.{Item as AnItem}
 use Rattle.charged_heap.specs.declared.item.Item.TheVariants.{Text}

@@ -7,7 +7,7 @@ use Rattle.std.specs.Ordering.{int_eq}
 use denote.Enum.Bare.{sameb}
 use Rattle.ivm_text.specs.declared.copies.TypeOf.{TypeOf}
 use Rattle.ivm_text.specs.declared.copies.TypeOf.TheVariants as type
-use Rattle.key_order.specs.Keys.{is_key}
+use Rattle.ivm_text.specs.Keys.{is_key}
 use Rattle.charged_heap.specs.Store.{Store, item_at}
 use Rattle.charged_heap.specs.declared.builtin.Builtin.{Builtin as BuiltinFunction}
 use Rattle.charged_heap.specs.contracts.builtin.Builtin.{the_type as the_builtins}

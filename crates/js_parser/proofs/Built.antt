@@ -7,7 +7,7 @@ use Rattle.std.proofs.lemmas.Bool.Decides.{nat_tests}
 use Rattle.js_syntax.specs.declared.node.Node.{Node}
 use Rattle.js_syntax.specs.Tree.{Trees, nothing}
 use Rattle.js_lexer.specs.declared.token.Token.{Token}
-use Rattle.js_grammar.specs.Work.{Part, Frame, onto, pushed, added, part_of, head_of}
+use Rattle.parser_rules.specs.Work.{Part, Frame, onto, pushed, added, part_of, head_of}
 use Rattle.js_parser.specs.declared.draft.Piece.{Piece}
 use Rattle.js_parser.specs.declared.draft.Draft.{Draft}
 use Rattle.js_parser.specs.View.{Root, none_there, root_at, root_of, trees_then, grown, part_at, parts_then, frame_of, frames_then, work_of, known, all_known}

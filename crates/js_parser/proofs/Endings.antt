@@ -5,10 +5,10 @@ use Rattle.js_lexer.specs.declared.token.Token.{Token}
 use Rattle.js_syntax.specs.declared.node.Node.{Node}
 use Rattle.js_syntax.specs.declared.kind.Kind.TheVariants as kinds
 use Rattle.js_syntax.specs.Tree.{Trees, nothing, tree}
-use Rattle.js_grammar.specs.declared.form.Why.{Why}
-use Rattle.js_grammar.specs.Work.{Part, State, going}
-use Rattle.js_grammar.specs.Rules.{Rule, run}
-use Rattle.js_grammar.specs.Grammar.{within, limit, at_start, reading, answer_by, answer_of, accepted, rejected, refusal_at, tree_of_parts}
+use Rattle.parser_rules.specs.declared.form.Why.{Why}
+use Rattle.parser_rules.specs.Work.{Part, State, going}
+use Rattle.parser_rules.specs.Rules.{Rule, run}
+use Rattle.parser_rules.specs.Grammar.{within, limit, at_start, reading, answer_by, answer_of, accepted, rejected, refusal_at, tree_of_parts}
 use Rattle.js_parser.specs.declared.draft.Piece.{Piece}
 use Rattle.js_parser.specs.declared.draft.Draft.{Draft}
 use Rattle.js_parser.specs.declared.reader.Reader.{Reader}

@@ -7,12 +7,12 @@ use Rattle.js_lexer.specs.declared.token.SyntaxFault.{SyntaxFault}
 use Rattle.js_lexer.specs.declared.token.SyntaxFault.TheVariants as faults
 use Rattle.js_syntax.specs.declared.node.Node.{Node}
 use Rattle.js_syntax.specs.Tree.{IsTreeOf}
-use Rattle.js_grammar.specs.declared.form.Why.{Why}
-use Rattle.js_grammar.specs.Work.{State, going, stuck}
-use Rattle.js_grammar.specs.Rules.{Rule}
-use Rattle.js_grammar.specs.Grammar.{answer_of, reading, limit, rejected, refusal_at}
-use Rattle.js_derivation.specs.Exactly.{Derivation, IsSameGrammar}
-use Rattle.js_derivation.specs.FirstBad.{HasFirstBad}
+use Rattle.parser_rules.specs.declared.form.Why.{Why}
+use Rattle.parser_rules.specs.Work.{State, going, stuck}
+use Rattle.parser_rules.specs.Rules.{Rule}
+use Rattle.parser_rules.specs.Grammar.{answer_of, reading, limit, rejected, refusal_at}
+use Rattle.js_grammar.specs.Exactly.{Derivation, IsSameGrammar}
+use Rattle.js_grammar.specs.FirstBad.{HasFirstBad}
 use Rattle.js_parser.specs.Accepted.{IsAccepted, IsFaultBy}
 use Rattle.js_parser.specs.View.{tree_of}
 use Rattle.js_parser.proofs.Works.{ok_map}

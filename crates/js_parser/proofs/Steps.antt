@@ -6,17 +6,17 @@ use Rattle.std.proofs.lemmas.Bool.{cases_Bool}
 use Rattle.std.proofs.lemmas.List.{nil_from_length, length-drop}
 use Rattle.js_lexer.specs.declared.token.Token.{Token}
 use Rattle.js_lexer.specs.declared.token.TokenKind.TheVariants as tokens
-use Rattle.js_grammar.specs.declared.class.Class.{Class}
-use Rattle.js_grammar.specs.declared.form.Why.{Why}
-use Rattle.js_grammar.specs.declared.form.Why.TheVariants.{Unexpected}
-use Rattle.js_grammar.specs.Work.{Work, State, going, stuck}
-use Rattle.js_grammar.specs.Rules.{Test, Action, passes, passes_on, after, work_after, take_one, taken, refused}
+use Rattle.parser_rules.specs.declared.class.Class.{Class}
+use Rattle.parser_rules.specs.declared.form.Why.{Why}
+use Rattle.parser_rules.specs.declared.form.Why.TheVariants.{Unexpected}
+use Rattle.parser_rules.specs.Work.{Work, State, going, stuck}
+use Rattle.parser_rules.specs.Rules.{Test, Action, passes, passes_on, after, work_after, take_one, taken, refused}
 use Rattle.ivm_text.specs.declared.refusal.Refusal.{Refusal}
 use Rattle.ivm_text.specs.declared.refusal.RefusalKind.{RefusalKind}
-use Rattle.js_grammar.specs.declared.class.Class.TheVariants as classes
-use Rattle.js_grammar.specs.declared.form.Form.{Form}
-use Rattle.js_grammar.specs.Classes.{class_of}
-use Rattle.js_grammar.specs.Grammar.{beyond, refused_at_limit, kind_of, word_of, refusal_at}
+use Rattle.parser_rules.specs.declared.class.Class.TheVariants as classes
+use Rattle.parser_rules.specs.declared.form.Form.{Form}
+use Rattle.parser_rules.specs.Classes.{class_of}
+use Rattle.parser_rules.specs.Grammar.{beyond, refused_at_limit, kind_of, word_of, refusal_at}
 use Rattle.js_parser.specs.declared.builder.Builder.{Builder}
 use Rattle.js_parser.specs.declared.reader.Reader.{Reader}
 use Rattle.js_parser.specs.Changes.{work_in}

@@ -10,8 +10,8 @@ use Rattle.js_syntax.specs.Tree as syntax
 use Rattle.std.proofs.lemmas.List.{length-append, get_or_append_left}
 use Rattle.std.proofs.Math.Seq.{get_or-append_seam}
 use Rattle.js_syntax.specs.Tree.{Head, Trees, nothing, tree}
-use Rattle.js_grammar.specs.declared.form.Cover.TheVariants as covers
-use Rattle.js_grammar.specs.Work.{Part, Frame, Work, fresh, pushed, added, opened_at, preceded, preceded_by, closed, closed_in, paired, paired_of, pair_of, unwrapped, unwrapped_in, bare_of, bare_name, cleared, offered, offered_part, offered_as, last_name, leaf_name, shorthand_of, shorthanded, is_name, is_number, key_of, with_one_name, with_place}
+use Rattle.parser_rules.specs.declared.form.Cover.TheVariants as covers
+use Rattle.parser_rules.specs.Work.{Part, Frame, Work, fresh, pushed, added, opened_at, preceded, preceded_by, closed, closed_in, paired, paired_of, pair_of, unwrapped, unwrapped_in, bare_of, bare_name, cleared, offered, offered_part, offered_as, last_name, leaf_name, shorthand_of, shorthanded, is_name, is_number, key_of, with_one_name, with_place}
 use Rattle.js_parser.specs.declared.draft.Piece.{Piece}
 use Rattle.js_parser.specs.declared.draft.Draft.{Draft}
 use Rattle.js_parser.specs.View.{Root, root_at, root_of, none_there, grown, part_at, parts_then, frame_of, frames_then, work_of, known}

@@ -7,10 +7,10 @@ use Rattle.js_lexer.specs.declared.token.Token.{Token}
 use Rattle.js_lexer.specs.declared.token.SyntaxFault.{SyntaxFault}
 use Rattle.js_lexer.specs.declared.token.SyntaxFault.TheVariants as faults
 use Rattle.js_lexer.specs.Tokens.{AreTokens, IsRefusal}
-use Rattle.js_grammar.specs.Rules.{Rule}
-use Rattle.js_grammar.specs.Statements.{script}
-use Rattle.js_grammar.specs.Literals.{literal_text, arguments_text}
-use Rattle.js_grammar.specs.Grammar.{answer_by, accepted, rejected}
+use Rattle.parser_rules.specs.Rules.{Rule}
+use Rattle.parser_rules.specs.Statements.{script}
+use Rattle.parser_rules.specs.Literals.{literal_text, arguments_text}
+use Rattle.parser_rules.specs.Grammar.{answer_by, accepted, rejected}
 use Rattle.js_parser.specs.declared.scripts.Whole.{Whole}
 use Rattle.js_parser.specs.declared.scripts.Whole.TheVariants as wholes
 

@@ -2,7 +2,7 @@
 -- This project's own; docs/SCRIPTS.md, "Nodes and places".
 use Rattle.std.specs.Prelude.{◌≡◌, List}
 use Rattle.js_lexer.specs.declared.token.Token.{Token}
-use Rattle.js_grammar.specs.Work.{Work}
+use Rattle.parser_rules.specs.Work.{Work}
 use Rattle.js_parser.specs.declared.builder.Builder.{Builder}
 use Rattle.js_parser.specs.View.{work_of}
 

@@ -3,8 +3,8 @@
 use Rattle.std.specs.Prelude.{◌≡◌, ℕ, Result, IfOk}
 use denote.Ref.{MutBor}
 use Rattle.ivm_text.specs.declared.fault.NoMemory.{NoMemory}
-use Rattle.js_grammar.specs.declared.form.Form.{Form}
-use Rattle.js_grammar.specs.Grammar.{within}
+use Rattle.parser_rules.specs.declared.form.Form.{Form}
+use Rattle.parser_rules.specs.Grammar.{within}
 use Rattle.js_parser.specs.declared.reader.Reader.{Reader}
 use Rattle.js_parser.specs.State.{state_of}
 

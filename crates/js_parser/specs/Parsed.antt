@@ -8,11 +8,11 @@ use Rattle.js_lexer.specs.declared.token.Token.{Token}
 use Rattle.js_lexer.specs.declared.token.SyntaxFault.{SyntaxFault}
 use Rattle.js_lexer.specs.declared.token.SyntaxFault.TheVariants as faults
 use Rattle.js_lexer.specs.Tokens.{AreTokens, IsRefusal}
-use Rattle.js_grammar.specs.declared.form.Why.{Why}
-use Rattle.js_grammar.specs.Grammar.{limit, refusal_at}
-use Rattle.js_derivation.specs.Derives.{Derives, DerivesLiteral, DerivesArguments}
-use Rattle.js_derivation.specs.Exactly.{Derivation}
-use Rattle.js_derivation.specs.FirstBad.{IsFirstBad}
+use Rattle.parser_rules.specs.declared.form.Why.{Why}
+use Rattle.parser_rules.specs.Grammar.{limit, refusal_at}
+use Rattle.js_grammar.specs.Derives.{Derives, DerivesLiteral, DerivesArguments}
+use Rattle.js_grammar.specs.Exactly.{Derivation}
+use Rattle.js_grammar.specs.FirstBad.{IsFirstBad}
 use Rattle.js_parser.specs.View.{tree_of}
 
 -- the bytes are a text of tokens that have this tree

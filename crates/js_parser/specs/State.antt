@@ -3,10 +3,10 @@
 use Rattle.std.specs.Prelude.{◌≡◌, ℕ, List, drop, Option, Some, None, Result, IfOk}
 use Rattle.ivm_text.specs.declared.fault.NoMemory.{NoMemory}
 use Rattle.js_lexer.specs.declared.token.Token.{Token}
-use Rattle.js_grammar.specs.declared.form.Why.{Why}
-use Rattle.js_grammar.specs.Work.{Work, State, going, stuck}
-use Rattle.js_grammar.specs.Rules.{Rule, Test, Action, run, after, take_one}
-use Rattle.js_grammar.specs.Grammar.{within}
+use Rattle.parser_rules.specs.declared.form.Why.{Why}
+use Rattle.parser_rules.specs.Work.{Work, State, going, stuck}
+use Rattle.parser_rules.specs.Rules.{Rule, Test, Action, run, after, take_one}
+use Rattle.parser_rules.specs.Grammar.{within}
 use Rattle.js_parser.specs.declared.reader.Reader.{Reader}
 use Rattle.js_parser.specs.Changes.{work_in}
 

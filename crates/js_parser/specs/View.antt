@@ -7,7 +7,7 @@ use Rattle.js_syntax.specs.declared.kind.Kind.TheVariants as kinds
 use Rattle.js_syntax.specs.Tree.{Head, Trees, nothing, tree}
 use Rattle.js_syntax.specs.Tree as syntax
 use Rattle.js_lexer.specs.declared.token.Token.{Token}
-use Rattle.js_grammar.specs.Work.{Part, Frame, Work, fresh, head_of}
+use Rattle.parser_rules.specs.Work.{Part, Frame, Work, fresh, head_of}
 use Rattle.js_parser.specs.declared.draft.Piece.{Piece}
 use Rattle.js_parser.specs.declared.draft.Draft.{Draft}
 

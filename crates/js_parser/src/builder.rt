@@ -3,17 +3,16 @@
 ghost use Rattle.std.specs.Prelude.{◌≡◌, ℕ, ◌+◌, ◌<◌, ◌∷◌, ◌++◌, List, [], length, true, slice_get, IfOk, Some, None, map, pos, nat_eq, ◌&&◌, MatchOption};
 ghost use Rattle.std.specs.Fmt.{signed_decimal};
 ghost use Rattle.js_lexer.specs.declared.token.Token.{Token};
-ghost use Rattle.js_grammar.specs.Work.{is_name, is_number, with_place};
+ghost use Rattle.parser_rules.specs.Work.{is_name, is_number, with_place};
 ghost use Rattle.js_parser.specs.View.{known, all_known};
 
 use crate::draft::{Draft, Piece};
 use crate::shape::is_formed;
 use crate::stacks::{put_draft, put_piece, take_draft, take_piece};
-use item_list::{CloneWhole, Items};
-use ivm_text::{NoMemory, Units};
-use js_grammar::Cover;
+use ivm_text::{CloneWhole, Items, NoMemory, Units};
 use js_lexer::{Token, TokenKind};
 use js_syntax::{Kids, Kind, Node, Script};
+use parser_rules::Cover;
 use std::alloc::Global;
 use std::mem;
 
@@ -34,7 +33,7 @@ pub(crate) struct Builder {
 impl Builder {
     ghost use Rattle.std.specs.Prelude.{◌≡◌, ℕ, ◌+◌, ◌<◌, ◌∷◌, ◌++◌, List, [], length, ◌-◌, true, slice_get, IfOk, IfSome, MatchOption, Some, None};
     ghost use Rattle.std.specs.Fmt.{signed_decimal};
-    ghost use Rattle.js_grammar.specs.Work.{Work, pushed, added, opened_at, preceded, closed, paired, unwrapped, with_own_name, with_one_name, with_value, named_by, declared_by, keyed_by, valued_by, bare_name, last_name, shorthanded, offered, only_expressions, only_parameters, cleared, omitted};
+    ghost use Rattle.parser_rules.specs.Work.{Work, pushed, added, opened_at, preceded, closed, paired, unwrapped, with_own_name, with_one_name, with_value, named_by, declared_by, keyed_by, valued_by, bare_name, last_name, shorthanded, offered, only_expressions, only_parameters, cleared, omitted};
     ghost use Rattle.js_lexer.specs.declared.token.Token.{Token};
     ghost use Rattle.js_parser.specs.declared.draft.Piece.{Piece};
     ghost use Rattle.js_parser.specs.View.{known, grown, frame_of, part_at};

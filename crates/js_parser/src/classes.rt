@@ -3,13 +3,13 @@
 ghost use Rattle.std.specs.Prelude.{◌≡◌, List, map};
 ghost use Rattle.std.specs.List.{list_any};
 ghost use Rattle.std.specs.Str.{bytes_eq};
-ghost use Rattle.js_grammar.specs.Classes.{class_of, class_in, is_among, is_word_token, is_punct_token, begins_construction, word_class, token_class, words, foreign_words, constructors, punctuators, code, is_one_of};
-ghost use Rattle.js_grammar.specs.Rules.{passing_words};
+ghost use Rattle.parser_rules.specs.Classes.{class_of, class_in, is_among, is_word_token, is_punct_token, begins_construction, word_class, token_class, words, foreign_words, constructors, punctuators, code, is_one_of};
+ghost use Rattle.parser_rules.specs.Rules.{passing_words};
 ghost use Rattle.js_parser.specs.Tables.{entries};
 
 use ivm_text::Units;
-use js_grammar::Class;
 use js_lexer::{Token, TokenKind};
+use parser_rules::Class;
 
 const WORDS: [(&[u8], Class); 21] = [
     (b"let", Class::Let),
@@ -117,7 +117,7 @@ const PUNCTUATORS: [(&[u8], Class); 35] = [
 ];
 
 /// The class of the first of these tokens.
-#[tactic(auto, unfolding(js_grammar::specs::Classes::class_of))]
+#[tactic(auto, unfolding(parser_rules::specs::Classes::class_of))]
 pub(crate) fn class_of(tokens: &[Token]) -> Class
     ensures { result ≡ class_of tokens.now }
 {
@@ -177,14 +177,14 @@ fn is_punctuator(token: &Token) -> bool
     }
 }
 
-#[tactic(auto, unfolding(js_grammar::specs::Classes::foreign_words))]
+#[tactic(auto, unfolding(parser_rules::specs::Classes::foreign_words))]
 fn is_foreign(word: &Units) -> bool
     ensures { result ≡ is_among foreign_words word.now }
 {
     is_one_of(word, &FOREIGN_WORDS)
 }
 
-#[tactic(auto, unfolding(js_grammar::specs::Classes::constructors))]
+#[tactic(auto, unfolding(parser_rules::specs::Classes::constructors))]
 fn is_constructor(word: &Units) -> bool
     ensures { result ≡ is_among constructors word.now }
 {
@@ -192,7 +192,7 @@ fn is_constructor(word: &Units) -> bool
 }
 
 /// Whether the word says what an argument passes.
-#[tactic(auto, unfolding(js_grammar::specs::Rules::passing_words))]
+#[tactic(auto, unfolding(parser_rules::specs::Rules::passing_words))]
 pub(crate) fn is_passing_word(word: &Units) -> bool
     ensures { result ≡ is_among passing_words word.now }
 {
@@ -210,14 +210,14 @@ fn is_one_of(word: &Units, words: &[&[u8]]) -> bool
     false
 }
 
-#[tactic(auto, unfolding(js_grammar::specs::Classes::words))]
+#[tactic(auto, unfolding(parser_rules::specs::Classes::words))]
 fn class_in_words(word: &Units) -> Class
     ensures { result ≡ class_in words word.now Class.Name }
 {
     class_in(&WORDS, word, Class::Name)
 }
 
-#[tactic(auto, unfolding(js_grammar::specs::Classes::punctuators))]
+#[tactic(auto, unfolding(parser_rules::specs::Classes::punctuators))]
 fn class_in_punctuators(text: &Units) -> Class
     ensures { result ≡ class_in punctuators text.now Class.Foreign }
 {

@@ -3,19 +3,19 @@
 use crate::grammar::Grammar;
 use crate::reader::Reader;
 use ivm_text::NoMemory;
-use js_grammar::{Class, Form};
 use js_syntax::Kind;
+use parser_rules::{Class, Form};
 
 impl<F: Fn(&mut Reader<'_>, u32, Form) -> Result<(), NoMemory>> Grammar<F> {
     ghost use Rattle.std.specs.Prelude.{[], ◌∷◌};
-    ghost use Rattle.js_grammar.specs.declared.class.Class.TheVariants as classes;
-    ghost use Rattle.js_grammar.specs.Rules.{act, either, many, sees, omit};
-    ghost use Rattle.js_grammar.specs.Statements.{const_binding, const_declaration, const_list, const_start, ends, function_declaration, further_const, further_let, initialiser, let_binding, let_declaration, let_list, let_start};
+    ghost use Rattle.parser_rules.specs.declared.class.Class.TheVariants as classes;
+    ghost use Rattle.parser_rules.specs.Rules.{act, either, many, sees, omit};
+    ghost use Rattle.parser_rules.specs.Statements.{const_binding, const_declaration, const_list, const_start, ends, function_declaration, further_const, further_let, initialiser, let_binding, let_declaration, let_list, let_start};
     ghost use Rattle.js_parser.specs.State.{Runs};
     ghost use Rattle.js_parser.specs.Nests.{Nests};
 
     /// The end of a statement.
-    #[tactic(auto, unfolding(js_grammar::specs::Statements::ends))]
+    #[tactic(auto, unfolding(parser_rules::specs::Statements::ends))]
     pub fn ends(&self, reader: &mut Reader<'_>) -> Result<(), NoMemory>
         requires { Nests self.now.levels (F.pre self.now.inside) (F.post self.now.inside) }
         ensures { Runs self.now.levels ends result reader.old reader.new }
@@ -32,7 +32,7 @@ impl<F: Fn(&mut Reader<'_>, u32, Form) -> Result<(), NoMemory>> Grammar<F> {
     }
 
     /// `=` and a value.
-    #[tactic(auto, unfolding(js_grammar::specs::Statements::initialiser))]
+    #[tactic(auto, unfolding(parser_rules::specs::Statements::initialiser))]
     pub fn initialiser(&self, reader: &mut Reader<'_>) -> Result<(), NoMemory>
         requires { Nests self.now.levels (F.pre self.now.inside) (F.post self.now.inside) }
         ensures { Runs self.now.levels initialiser result reader.old reader.new }
@@ -54,7 +54,7 @@ impl<F: Fn(&mut Reader<'_>, u32, Form) -> Result<(), NoMemory>> Grammar<F> {
     }
 
     /// A name of a `let`.
-    #[tactic(auto, unfolding(js_grammar::specs::Statements::let_binding))]
+    #[tactic(auto, unfolding(parser_rules::specs::Statements::let_binding))]
     pub fn let_binding(&self, reader: &mut Reader<'_>) -> Result<(), NoMemory>
         requires { Nests self.now.levels (F.pre self.now.inside) (F.post self.now.inside) }
         ensures { Runs self.now.levels let_binding result reader.old reader.new }
@@ -64,7 +64,7 @@ impl<F: Fn(&mut Reader<'_>, u32, Form) -> Result<(), NoMemory>> Grammar<F> {
     }
 
     /// A name of a `const`, and its value.
-    #[tactic(auto, unfolding(js_grammar::specs::Statements::const_binding))]
+    #[tactic(auto, unfolding(parser_rules::specs::Statements::const_binding))]
     pub fn const_binding(&self, reader: &mut Reader<'_>) -> Result<(), NoMemory>
         requires { Nests self.now.levels (F.pre self.now.inside) (F.post self.now.inside) }
         ensures { Runs self.now.levels const_binding result reader.old reader.new }
@@ -74,7 +74,7 @@ impl<F: Fn(&mut Reader<'_>, u32, Form) -> Result<(), NoMemory>> Grammar<F> {
     }
 
     /// A further name of a `let`.
-    #[tactic(auto, unfolding(js_grammar::specs::Statements::further_let))]
+    #[tactic(auto, unfolding(parser_rules::specs::Statements::further_let))]
     pub fn further_let(&self, reader: &mut Reader<'_>) -> Result<(), NoMemory>
         requires { Nests self.now.levels (F.pre self.now.inside) (F.post self.now.inside) }
         ensures { Runs self.now.levels further_let result reader.old reader.new }
@@ -95,7 +95,7 @@ impl<F: Fn(&mut Reader<'_>, u32, Form) -> Result<(), NoMemory>> Grammar<F> {
     }
 
     /// The names of a `let`, without its end.
-    #[tactic(auto, unfolding(js_grammar::specs::Statements::let_list))]
+    #[tactic(auto, unfolding(parser_rules::specs::Statements::let_list))]
     pub fn let_list(&self, reader: &mut Reader<'_>) -> Result<(), NoMemory>
         requires { Nests self.now.levels (F.pre self.now.inside) (F.post self.now.inside) }
         ensures { Runs self.now.levels let_list result reader.old reader.new }
@@ -107,7 +107,7 @@ impl<F: Fn(&mut Reader<'_>, u32, Form) -> Result<(), NoMemory>> Grammar<F> {
     }
 
     /// A `let`.
-    #[tactic(auto, unfolding(js_grammar::specs::Statements::let_declaration))]
+    #[tactic(auto, unfolding(parser_rules::specs::Statements::let_declaration))]
     pub fn let_declaration(&self, reader: &mut Reader<'_>) -> Result<(), NoMemory>
         requires { Nests self.now.levels (F.pre self.now.inside) (F.post self.now.inside) }
         ensures { Runs self.now.levels let_declaration result reader.old reader.new }
@@ -118,7 +118,7 @@ impl<F: Fn(&mut Reader<'_>, u32, Form) -> Result<(), NoMemory>> Grammar<F> {
     }
 
     /// A `let` at the beginning of a `for`.
-    #[tactic(auto, unfolding(js_grammar::specs::Statements::let_start))]
+    #[tactic(auto, unfolding(parser_rules::specs::Statements::let_start))]
     pub fn let_start(&self, reader: &mut Reader<'_>) -> Result<(), NoMemory>
         requires { Nests self.now.levels (F.pre self.now.inside) (F.post self.now.inside) }
         ensures { Runs self.now.levels let_start result reader.old reader.new }
@@ -128,7 +128,7 @@ impl<F: Fn(&mut Reader<'_>, u32, Form) -> Result<(), NoMemory>> Grammar<F> {
     }
 
     /// A further name of a `const`.
-    #[tactic(auto, unfolding(js_grammar::specs::Statements::further_const))]
+    #[tactic(auto, unfolding(parser_rules::specs::Statements::further_const))]
     pub fn further_const(&self, reader: &mut Reader<'_>) -> Result<(), NoMemory>
         requires { Nests self.now.levels (F.pre self.now.inside) (F.post self.now.inside) }
         ensures { Runs self.now.levels further_const result reader.old reader.new }
@@ -149,7 +149,7 @@ impl<F: Fn(&mut Reader<'_>, u32, Form) -> Result<(), NoMemory>> Grammar<F> {
     }
 
     /// The names of a `const`, without its end.
-    #[tactic(auto, unfolding(js_grammar::specs::Statements::const_list))]
+    #[tactic(auto, unfolding(parser_rules::specs::Statements::const_list))]
     pub fn const_list(&self, reader: &mut Reader<'_>) -> Result<(), NoMemory>
         requires { Nests self.now.levels (F.pre self.now.inside) (F.post self.now.inside) }
         ensures { Runs self.now.levels const_list result reader.old reader.new }
@@ -161,7 +161,7 @@ impl<F: Fn(&mut Reader<'_>, u32, Form) -> Result<(), NoMemory>> Grammar<F> {
     }
 
     /// A `const`.
-    #[tactic(auto, unfolding(js_grammar::specs::Statements::const_declaration))]
+    #[tactic(auto, unfolding(parser_rules::specs::Statements::const_declaration))]
     pub fn const_declaration(&self, reader: &mut Reader<'_>) -> Result<(), NoMemory>
         requires { Nests self.now.levels (F.pre self.now.inside) (F.post self.now.inside) }
         ensures { Runs self.now.levels const_declaration result reader.old reader.new }
@@ -172,7 +172,7 @@ impl<F: Fn(&mut Reader<'_>, u32, Form) -> Result<(), NoMemory>> Grammar<F> {
     }
 
     /// A `const` at the beginning of a `for`.
-    #[tactic(auto, unfolding(js_grammar::specs::Statements::const_start))]
+    #[tactic(auto, unfolding(parser_rules::specs::Statements::const_start))]
     pub fn const_start(&self, reader: &mut Reader<'_>) -> Result<(), NoMemory>
         requires { Nests self.now.levels (F.pre self.now.inside) (F.post self.now.inside) }
         ensures { Runs self.now.levels const_start result reader.old reader.new }
@@ -182,7 +182,7 @@ impl<F: Fn(&mut Reader<'_>, u32, Form) -> Result<(), NoMemory>> Grammar<F> {
     }
 
     /// A function.
-    #[tactic(auto, unfolding(js_grammar::specs::Statements::function_declaration))]
+    #[tactic(auto, unfolding(parser_rules::specs::Statements::function_declaration))]
     pub fn function_declaration(&self, reader: &mut Reader<'_>) -> Result<(), NoMemory>
         requires { Nests self.now.levels (F.pre self.now.inside) (F.post self.now.inside) }
         ensures { Runs self.now.levels function_declaration result reader.old reader.new }

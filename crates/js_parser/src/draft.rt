@@ -2,10 +2,9 @@
 
 ghost use Rattle.std.specs.Prelude.{◌≡◌, pos, None, [], ◌∷◌, ◌++◌};
 
-use item_list::Items;
-use ivm_text::Units;
-use js_grammar::Cover;
+use ivm_text::{Items, Units};
 use js_syntax::{Kind, Names, Places};
+use parser_rules::Cover;
 use std::alloc::Global;
 
 /// A form that was read.

@@ -3,8 +3,8 @@
 use crate::grammar::Grammar;
 use crate::reader::Reader;
 use ivm_text::NoMemory;
-use js_grammar::{Class, Form};
 use js_syntax::Kind;
+use parser_rules::{Class, Form};
 
 const PREFIX: &[Class] = &[
     Class::Not,
@@ -18,14 +18,14 @@ const PREFIX: &[Class] = &[
 
 impl<F: Fn(&mut Reader<'_>, u32, Form) -> Result<(), NoMemory>> Grammar<F> {
     ghost use Rattle.std.specs.Prelude.{[], ◌∷◌};
-    ghost use Rattle.js_grammar.specs.declared.class.Class.TheVariants as classes;
-    ghost use Rattle.js_grammar.specs.Rules.{either, many, sees, sees_on_line, may_be_parameters};
-    ghost use Rattle.js_grammar.specs.Expressions.{assignment, behind_items, behind_names, covered, expression, further_item, further_name, items, named_arrow, named_first, offered_item, prefix_first, primary_first, some_items, unwrapped_first};
+    ghost use Rattle.parser_rules.specs.declared.class.Class.TheVariants as classes;
+    ghost use Rattle.parser_rules.specs.Rules.{either, many, sees, sees_on_line, may_be_parameters};
+    ghost use Rattle.parser_rules.specs.Expressions.{assignment, behind_items, behind_names, covered, expression, further_item, further_name, items, named_arrow, named_first, offered_item, prefix_first, primary_first, some_items, unwrapped_first};
     ghost use Rattle.js_parser.specs.State.{Runs};
     ghost use Rattle.js_parser.specs.Nests.{Nests};
 
     /// A further expression behind a `(`.
-    #[tactic(auto, unfolding(js_grammar::specs::Expressions::offered_item))]
+    #[tactic(auto, unfolding(parser_rules::specs::Expressions::offered_item))]
     pub fn offered_item(&self, reader: &mut Reader<'_>) -> Result<(), NoMemory>
         requires { Nests self.now.levels (F.pre self.now.inside) (F.post self.now.inside) }
         ensures { Runs self.now.levels offered_item result reader.old reader.new }
@@ -36,7 +36,7 @@ impl<F: Fn(&mut Reader<'_>, u32, Form) -> Result<(), NoMemory>> Grammar<F> {
     }
 
     /// What may follow names and a `,`: the `)`, or an expression.
-    #[tactic(auto, unfolding(js_grammar::specs::Expressions::further_name))]
+    #[tactic(auto, unfolding(parser_rules::specs::Expressions::further_name))]
     pub fn further_name(&self, reader: &mut Reader<'_>) -> Result<(), NoMemory>
         requires { Nests self.now.levels (F.pre self.now.inside) (F.post self.now.inside) }
         ensures { Runs self.now.levels further_name result reader.old reader.new }
@@ -62,7 +62,7 @@ impl<F: Fn(&mut Reader<'_>, u32, Form) -> Result<(), NoMemory>> Grammar<F> {
     }
 
     /// A `,` and what follows it behind a `(`.
-    #[tactic(auto, unfolding(js_grammar::specs::Expressions::further_item))]
+    #[tactic(auto, unfolding(parser_rules::specs::Expressions::further_item))]
     pub fn further_item(&self, reader: &mut Reader<'_>) -> Result<(), NoMemory>
         requires { Nests self.now.levels (F.pre self.now.inside) (F.post self.now.inside) }
         ensures { Runs self.now.levels further_item result reader.old reader.new }
@@ -83,7 +83,7 @@ impl<F: Fn(&mut Reader<'_>, u32, Form) -> Result<(), NoMemory>> Grammar<F> {
     }
 
     /// The expressions behind a `(`.
-    #[tactic(auto, unfolding(js_grammar::specs::Expressions::some_items))]
+    #[tactic(auto, unfolding(parser_rules::specs::Expressions::some_items))]
     pub fn some_items(&self, reader: &mut Reader<'_>) -> Result<(), NoMemory>
         requires { Nests self.now.levels (F.pre self.now.inside) (F.post self.now.inside) }
         ensures { Runs self.now.levels some_items result reader.old reader.new }
@@ -94,7 +94,7 @@ impl<F: Fn(&mut Reader<'_>, u32, Form) -> Result<(), NoMemory>> Grammar<F> {
     }
 
     /// What stands between parentheses.
-    #[tactic(auto, unfolding(js_grammar::specs::Expressions::items))]
+    #[tactic(auto, unfolding(parser_rules::specs::Expressions::items))]
     pub fn items(&self, reader: &mut Reader<'_>) -> Result<(), NoMemory>
         requires { Nests self.now.levels (F.pre self.now.inside) (F.post self.now.inside) }
         ensures { Runs self.now.levels items result reader.old reader.new }
@@ -108,7 +108,7 @@ impl<F: Fn(&mut Reader<'_>, u32, Form) -> Result<(), NoMemory>> Grammar<F> {
     }
 
     /// The rest of an expression that began with parentheses.
-    #[tactic(auto, unfolding(js_grammar::specs::Expressions::unwrapped_first))]
+    #[tactic(auto, unfolding(parser_rules::specs::Expressions::unwrapped_first))]
     pub fn unwrapped_first(&self, reader: &mut Reader<'_>) -> Result<(), NoMemory>
         requires { Nests self.now.levels (F.pre self.now.inside) (F.post self.now.inside) }
         ensures { Runs self.now.levels unwrapped_first result reader.old reader.new }
@@ -118,7 +118,7 @@ impl<F: Fn(&mut Reader<'_>, u32, Form) -> Result<(), NoMemory>> Grammar<F> {
     }
 
     /// What follows names in parentheses.
-    #[tactic(auto, unfolding(js_grammar::specs::Expressions::behind_names))]
+    #[tactic(auto, unfolding(parser_rules::specs::Expressions::behind_names))]
     pub fn behind_names(&self, reader: &mut Reader<'_>) -> Result<(), NoMemory>
         requires { Nests self.now.levels (F.pre self.now.inside) (F.post self.now.inside) }
         ensures { Runs self.now.levels behind_names result reader.old reader.new }
@@ -131,7 +131,7 @@ impl<F: Fn(&mut Reader<'_>, u32, Form) -> Result<(), NoMemory>> Grammar<F> {
     }
 
     /// What follows the `)`.
-    #[tactic(auto, unfolding(js_grammar::specs::Expressions::behind_items))]
+    #[tactic(auto, unfolding(parser_rules::specs::Expressions::behind_items))]
     pub fn behind_items(&self, reader: &mut Reader<'_>) -> Result<(), NoMemory>
         requires { Nests self.now.levels (F.pre self.now.inside) (F.post self.now.inside) }
         ensures { Runs self.now.levels behind_items result reader.old reader.new }
@@ -146,7 +146,7 @@ impl<F: Fn(&mut Reader<'_>, u32, Form) -> Result<(), NoMemory>> Grammar<F> {
     }
 
     /// An expression that begins with a `(`.
-    #[tactic(auto, unfolding(js_grammar::specs::Expressions::covered))]
+    #[tactic(auto, unfolding(parser_rules::specs::Expressions::covered))]
     pub fn covered(&self, reader: &mut Reader<'_>) -> Result<(), NoMemory>
         requires { Nests self.now.levels (F.pre self.now.inside) (F.post self.now.inside) }
         ensures { Runs self.now.levels covered result reader.old reader.new }
@@ -159,7 +159,7 @@ impl<F: Fn(&mut Reader<'_>, u32, Form) -> Result<(), NoMemory>> Grammar<F> {
     }
 
     /// An arrow function whose parameter was read.
-    #[tactic(auto, unfolding(js_grammar::specs::Expressions::named_arrow))]
+    #[tactic(auto, unfolding(parser_rules::specs::Expressions::named_arrow))]
     pub fn named_arrow(&self, reader: &mut Reader<'_>) -> Result<(), NoMemory>
         requires { Nests self.now.levels (F.pre self.now.inside) (F.post self.now.inside) }
         ensures { Runs self.now.levels named_arrow result reader.old reader.new }
@@ -182,7 +182,7 @@ impl<F: Fn(&mut Reader<'_>, u32, Form) -> Result<(), NoMemory>> Grammar<F> {
     }
 
     /// An expression that begins with a name.
-    #[tactic(auto, unfolding(js_grammar::specs::Expressions::named_first))]
+    #[tactic(auto, unfolding(parser_rules::specs::Expressions::named_first))]
     pub fn named_first(&self, reader: &mut Reader<'_>) -> Result<(), NoMemory>
         requires { Nests self.now.levels (F.pre self.now.inside) (F.post self.now.inside) }
         ensures { Runs self.now.levels named_first result reader.old reader.new }
@@ -192,7 +192,7 @@ impl<F: Fn(&mut Reader<'_>, u32, Form) -> Result<(), NoMemory>> Grammar<F> {
     }
 
     /// An expression that begins with an operator.
-    #[tactic(auto, unfolding(js_grammar::specs::Expressions::prefix_first))]
+    #[tactic(auto, unfolding(parser_rules::specs::Expressions::prefix_first))]
     pub fn prefix_first(&self, reader: &mut Reader<'_>) -> Result<(), NoMemory>
         requires { Nests self.now.levels (F.pre self.now.inside) (F.post self.now.inside) }
         ensures { Runs self.now.levels prefix_first result reader.old reader.new }
@@ -202,7 +202,7 @@ impl<F: Fn(&mut Reader<'_>, u32, Form) -> Result<(), NoMemory>> Grammar<F> {
     }
 
     /// An expression that begins with another operand.
-    #[tactic(auto, unfolding(js_grammar::specs::Expressions::primary_first))]
+    #[tactic(auto, unfolding(parser_rules::specs::Expressions::primary_first))]
     pub fn primary_first(&self, reader: &mut Reader<'_>) -> Result<(), NoMemory>
         requires { Nests self.now.levels (F.pre self.now.inside) (F.post self.now.inside) }
         ensures { Runs self.now.levels primary_first result reader.old reader.new }
@@ -212,7 +212,7 @@ impl<F: Fn(&mut Reader<'_>, u32, Form) -> Result<(), NoMemory>> Grammar<F> {
     }
 
     /// An expression without a `,`.
-    #[tactic(auto, unfolding(js_grammar::specs::Expressions::expression))]
+    #[tactic(auto, unfolding(parser_rules::specs::Expressions::expression))]
     pub fn expression(&self, reader: &mut Reader<'_>) -> Result<(), NoMemory>
         requires { Nests self.now.levels (F.pre self.now.inside) (F.post self.now.inside) }
         ensures { Runs self.now.levels expression result reader.old reader.new }

@@ -3,19 +3,19 @@
 use crate::grammar::Grammar;
 use crate::reader::Reader;
 use ivm_text::NoMemory;
-use js_grammar::{Class, Form};
 use js_syntax::Kind;
+use parser_rules::{Class, Form};
 
 impl<F: Fn(&mut Reader<'_>, u32, Form) -> Result<(), NoMemory>> Grammar<F> {
     ghost use Rattle.std.specs.Prelude.{[], ◌∷◌};
-    ghost use Rattle.js_grammar.specs.declared.class.Class.TheVariants as classes;
-    ghost use Rattle.js_grammar.specs.Rules.{many, sees};
-    ghost use Rattle.js_grammar.specs.Expressions.{arrow, body, concise_body, declared_name, function_expression, name_if_any, own_name, parameter, parameters};
+    ghost use Rattle.parser_rules.specs.declared.class.Class.TheVariants as classes;
+    ghost use Rattle.parser_rules.specs.Rules.{many, sees};
+    ghost use Rattle.parser_rules.specs.Expressions.{arrow, body, concise_body, declared_name, function_expression, name_if_any, own_name, parameter, parameters};
     ghost use Rattle.js_parser.specs.State.{Runs};
     ghost use Rattle.js_parser.specs.Nests.{Nests};
 
     /// A name that is declared.
-    #[tactic(auto, unfolding(js_grammar::specs::Expressions::declared_name))]
+    #[tactic(auto, unfolding(parser_rules::specs::Expressions::declared_name))]
     pub fn declared_name(&self, reader: &mut Reader<'_>) -> Result<(), NoMemory>
         requires { Nests self.now.levels (F.pre self.now.inside) (F.post self.now.inside) }
         ensures { Runs self.now.levels declared_name result reader.old reader.new }
@@ -26,7 +26,7 @@ impl<F: Fn(&mut Reader<'_>, u32, Form) -> Result<(), NoMemory>> Grammar<F> {
     }
 
     /// The name of the form itself.
-    #[tactic(auto, unfolding(js_grammar::specs::Expressions::own_name))]
+    #[tactic(auto, unfolding(parser_rules::specs::Expressions::own_name))]
     pub fn own_name(&self, reader: &mut Reader<'_>) -> Result<(), NoMemory>
         requires { Nests self.now.levels (F.pre self.now.inside) (F.post self.now.inside) }
         ensures { Runs self.now.levels own_name result reader.old reader.new }
@@ -37,7 +37,7 @@ impl<F: Fn(&mut Reader<'_>, u32, Form) -> Result<(), NoMemory>> Grammar<F> {
     }
 
     /// The name of the form itself, if it has one.
-    #[tactic(auto, unfolding(js_grammar::specs::Expressions::name_if_any))]
+    #[tactic(auto, unfolding(parser_rules::specs::Expressions::name_if_any))]
     pub fn name_if_any(&self, reader: &mut Reader<'_>) -> Result<(), NoMemory>
         requires { Nests self.now.levels (F.pre self.now.inside) (F.post self.now.inside) }
         ensures { Runs self.now.levels name_if_any result reader.old reader.new }
@@ -50,7 +50,7 @@ impl<F: Fn(&mut Reader<'_>, u32, Form) -> Result<(), NoMemory>> Grammar<F> {
     }
 
     /// A parameter, and the `,` behind it.
-    #[tactic(auto, unfolding(js_grammar::specs::Expressions::parameter))]
+    #[tactic(auto, unfolding(parser_rules::specs::Expressions::parameter))]
     pub fn parameter(&self, reader: &mut Reader<'_>) -> Result<(), NoMemory>
         requires { Nests self.now.levels (F.pre self.now.inside) (F.post self.now.inside) }
         ensures { Runs self.now.levels parameter result reader.old reader.new }
@@ -71,7 +71,7 @@ impl<F: Fn(&mut Reader<'_>, u32, Form) -> Result<(), NoMemory>> Grammar<F> {
     }
 
     /// The parameters in their parentheses.
-    #[tactic(auto, unfolding(js_grammar::specs::Expressions::parameters))]
+    #[tactic(auto, unfolding(parser_rules::specs::Expressions::parameters))]
     pub fn parameters(&self, reader: &mut Reader<'_>) -> Result<(), NoMemory>
         requires { Nests self.now.levels (F.pre self.now.inside) (F.post self.now.inside) }
         ensures { Runs self.now.levels parameters result reader.old reader.new }
@@ -83,7 +83,7 @@ impl<F: Fn(&mut Reader<'_>, u32, Form) -> Result<(), NoMemory>> Grammar<F> {
     }
 
     /// The body of a function.
-    #[tactic(auto, unfolding(js_grammar::specs::Expressions::body))]
+    #[tactic(auto, unfolding(parser_rules::specs::Expressions::body))]
     pub fn body(&self, reader: &mut Reader<'_>) -> Result<(), NoMemory>
         requires { Nests self.now.levels (F.pre self.now.inside) (F.post self.now.inside) }
         ensures { Runs self.now.levels body result reader.old reader.new }
@@ -96,7 +96,7 @@ impl<F: Fn(&mut Reader<'_>, u32, Form) -> Result<(), NoMemory>> Grammar<F> {
     }
 
     /// A function as an expression.
-    #[tactic(auto, unfolding(js_grammar::specs::Expressions::function_expression))]
+    #[tactic(auto, unfolding(parser_rules::specs::Expressions::function_expression))]
     pub fn function_expression(&self, reader: &mut Reader<'_>) -> Result<(), NoMemory>
         requires { Nests self.now.levels (F.pre self.now.inside) (F.post self.now.inside) }
         ensures { Runs self.now.levels function_expression result reader.old reader.new }
@@ -110,7 +110,7 @@ impl<F: Fn(&mut Reader<'_>, u32, Form) -> Result<(), NoMemory>> Grammar<F> {
     }
 
     /// The body of an arrow function.
-    #[tactic(auto, unfolding(js_grammar::specs::Expressions::concise_body))]
+    #[tactic(auto, unfolding(parser_rules::specs::Expressions::concise_body))]
     pub fn concise_body(&self, reader: &mut Reader<'_>) -> Result<(), NoMemory>
         requires { Nests self.now.levels (F.pre self.now.inside) (F.post self.now.inside) }
         ensures { Runs self.now.levels concise_body result reader.old reader.new }
@@ -123,7 +123,7 @@ impl<F: Fn(&mut Reader<'_>, u32, Form) -> Result<(), NoMemory>> Grammar<F> {
     }
 
     /// `=>` and the body, where the parameters were read.
-    #[tactic(auto, unfolding(js_grammar::specs::Expressions::arrow))]
+    #[tactic(auto, unfolding(parser_rules::specs::Expressions::arrow))]
     pub fn arrow(&self, reader: &mut Reader<'_>) -> Result<(), NoMemory>
         requires { Nests self.now.levels (F.pre self.now.inside) (F.post self.now.inside) }
         ensures { Runs self.now.levels arrow result reader.old reader.new }

@@ -2,7 +2,7 @@
 
 use crate::reader::Reader;
 use ivm_text::NoMemory;
-use js_grammar::Form;
+use parser_rules::Form;
 
 /// The rules, over a function that reads what stands one level further inside.
 #[derive(Clone, Copy)]
@@ -14,7 +14,7 @@ pub(crate) struct Grammar<F> {
 
 impl<F: Fn(&mut Reader<'_>, u32, Form) -> Result<(), NoMemory>> Grammar<F> {
     ghost use Rattle.std.specs.Prelude.{◌≡◌};
-    ghost use Rattle.js_grammar.specs.Rules.{inside};
+    ghost use Rattle.parser_rules.specs.Rules.{inside};
     ghost use Rattle.js_parser.specs.State.{Runs};
     ghost use Rattle.js_parser.specs.Nests.{Nests};
 

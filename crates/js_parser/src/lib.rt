@@ -1,8 +1,8 @@
 //! Scripts, literals and arguments from their bytes: a tree exactly where the grammar has one, and else the first bad token.
 //!
 //! Contracts see bytes and tokens as lists, and a script as the tree under its root.
-//! Rely on: `parse` and its kin answer what the grammar of `js_grammar` says, save for want of memory.
-//! Over `js_grammar`, `js_lexer` and `js_syntax`; under `js_literals`, `js_early` and `isolate_core`.
+//! Rely on: `parse` and its kin answer what the grammar of `parser_rules` says, save for want of memory.
+//! Over `js_grammar`, `parser_rules`, `js_lexer` and `js_syntax`; under `js_scripts` and `js_literals`.
 //! Begin with `specs/View.antt`, then `src/reader.rt` and `src/statements.rt`.
 #![tactic(auto)]
 

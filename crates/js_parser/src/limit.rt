@@ -1,16 +1,15 @@
 //! Where no level is left, and where a token is refused.
 
 ghost use Rattle.std.specs.Prelude.{◌≡◌, IfOk, IfSome, None, if◌then◌else◌};
-ghost use Rattle.js_grammar.specs.Classes.{is_one_of};
-ghost use Rattle.js_grammar.specs.Grammar.{begins, beyond, kind_of, word_of, refusal_at};
+ghost use Rattle.parser_rules.specs.Classes.{is_one_of};
+ghost use Rattle.parser_rules.specs.Grammar.{begins, beyond, kind_of, word_of, refusal_at};
 ghost use Rattle.js_parser.specs.State.{state_of, rest_of};
 
 use crate::builder::first;
 use crate::classes::is_among;
 use crate::reader::{Reader, behind};
-use item_list::CloneWhole;
-use ivm_text::{NoMemory, Refusal, RefusalKind, Units};
-use js_grammar::{Class, Form, Why};
+use ivm_text::{CloneWhole, NoMemory, Refusal, RefusalKind, Units};
+use parser_rules::{Class, Form, Why};
 use std::alloc::Global;
 
 const EXPRESSION: [Class; 20] = [

@@ -3,19 +3,19 @@
 use crate::grammar::Grammar;
 use crate::reader::Reader;
 use ivm_text::NoMemory;
-use js_grammar::{Class, Form};
 use js_syntax::Kind;
+use parser_rules::{Class, Form};
 
 impl<F: Fn(&mut Reader<'_>, u32, Form) -> Result<(), NoMemory>> Grammar<F> {
     ghost use Rattle.std.specs.Prelude.{[], ◌∷◌};
-    ghost use Rattle.js_grammar.specs.declared.class.Class.TheVariants as classes;
-    ghost use Rattle.js_grammar.specs.Rules.{many, sees, sees_other};
-    ghost use Rattle.js_grammar.specs.Expressions.{comma_before, element, elements, expression_list, further_expression, item_list};
+    ghost use Rattle.parser_rules.specs.declared.class.Class.TheVariants as classes;
+    ghost use Rattle.parser_rules.specs.Rules.{many, sees, sees_other};
+    ghost use Rattle.parser_rules.specs.Expressions.{comma_before, element, elements, expression_list, further_expression, item_list};
     ghost use Rattle.js_parser.specs.State.{Runs};
     ghost use Rattle.js_parser.specs.Nests.{Nests};
 
     /// A `,` and a further expression.
-    #[tactic(auto, unfolding(js_grammar::specs::Expressions::further_expression))]
+    #[tactic(auto, unfolding(parser_rules::specs::Expressions::further_expression))]
     pub fn further_expression(&self, reader: &mut Reader<'_>) -> Result<(), NoMemory>
         requires { Nests self.now.levels (F.pre self.now.inside) (F.post self.now.inside) }
         ensures { Runs self.now.levels further_expression result reader.old reader.new }
@@ -37,7 +37,7 @@ impl<F: Fn(&mut Reader<'_>, u32, Form) -> Result<(), NoMemory>> Grammar<F> {
     }
 
     /// One expression, or several with `,` between.
-    #[tactic(auto, unfolding(js_grammar::specs::Expressions::expression_list))]
+    #[tactic(auto, unfolding(parser_rules::specs::Expressions::expression_list))]
     pub fn expression_list(&self, reader: &mut Reader<'_>) -> Result<(), NoMemory>
         requires { Nests self.now.levels (F.pre self.now.inside) (F.post self.now.inside) }
         ensures { Runs self.now.levels expression_list result reader.old reader.new }
@@ -47,7 +47,7 @@ impl<F: Fn(&mut Reader<'_>, u32, Form) -> Result<(), NoMemory>> Grammar<F> {
     }
 
     /// A `,`, or what closes the list.
-    #[tactic(auto, unfolding(js_grammar::specs::Expressions::comma_before))]
+    #[tactic(auto, unfolding(parser_rules::specs::Expressions::comma_before))]
     pub fn comma_before_paren(&self, reader: &mut Reader<'_>) -> Result<(), NoMemory>
         requires { Nests self.now.levels (F.pre self.now.inside) (F.post self.now.inside) }
         ensures { Runs self.now.levels (comma_before classes.ParenClose) result reader.old reader.new }
@@ -64,7 +64,7 @@ impl<F: Fn(&mut Reader<'_>, u32, Form) -> Result<(), NoMemory>> Grammar<F> {
     }
 
     /// One expression of a list, and the `,` behind it.
-    #[tactic(auto, unfolding(js_grammar::specs::Expressions::element))]
+    #[tactic(auto, unfolding(parser_rules::specs::Expressions::element))]
     pub fn argument(&self, reader: &mut Reader<'_>) -> Result<(), NoMemory>
         requires { Nests self.now.levels (F.pre self.now.inside) (F.post self.now.inside) }
         ensures { Runs self.now.levels (element classes.ParenClose) result reader.old reader.new }
@@ -85,7 +85,7 @@ impl<F: Fn(&mut Reader<'_>, u32, Form) -> Result<(), NoMemory>> Grammar<F> {
     }
 
     /// The expressions of a list, and what closes it.
-    #[tactic(auto, unfolding(js_grammar::specs::Expressions::elements))]
+    #[tactic(auto, unfolding(parser_rules::specs::Expressions::elements))]
     pub fn arguments(&self, reader: &mut Reader<'_>) -> Result<(), NoMemory>
         requires { Nests self.now.levels (F.pre self.now.inside) (F.post self.now.inside) }
         ensures { Runs self.now.levels (elements classes.ParenClose) result reader.old reader.new }
@@ -96,7 +96,7 @@ impl<F: Fn(&mut Reader<'_>, u32, Form) -> Result<(), NoMemory>> Grammar<F> {
     }
 
     /// A `,`, or what closes the list.
-    #[tactic(auto, unfolding(js_grammar::specs::Expressions::comma_before))]
+    #[tactic(auto, unfolding(parser_rules::specs::Expressions::comma_before))]
     pub fn comma_before_bracket(&self, reader: &mut Reader<'_>) -> Result<(), NoMemory>
         requires { Nests self.now.levels (F.pre self.now.inside) (F.post self.now.inside) }
         ensures { Runs self.now.levels (comma_before classes.BracketClose) result reader.old reader.new }
@@ -113,7 +113,7 @@ impl<F: Fn(&mut Reader<'_>, u32, Form) -> Result<(), NoMemory>> Grammar<F> {
     }
 
     /// One expression of a list, and the `,` behind it.
-    #[tactic(auto, unfolding(js_grammar::specs::Expressions::element))]
+    #[tactic(auto, unfolding(parser_rules::specs::Expressions::element))]
     pub fn array_element(&self, reader: &mut Reader<'_>) -> Result<(), NoMemory>
         requires { Nests self.now.levels (F.pre self.now.inside) (F.post self.now.inside) }
         ensures { Runs self.now.levels (element classes.BracketClose) result reader.old reader.new }
@@ -134,7 +134,7 @@ impl<F: Fn(&mut Reader<'_>, u32, Form) -> Result<(), NoMemory>> Grammar<F> {
     }
 
     /// The expressions of a list, and what closes it.
-    #[tactic(auto, unfolding(js_grammar::specs::Expressions::elements))]
+    #[tactic(auto, unfolding(parser_rules::specs::Expressions::elements))]
     pub fn array_elements(&self, reader: &mut Reader<'_>) -> Result<(), NoMemory>
         requires { Nests self.now.levels (F.pre self.now.inside) (F.post self.now.inside) }
         ensures { Runs self.now.levels (elements classes.BracketClose) result reader.old reader.new }
@@ -145,7 +145,7 @@ impl<F: Fn(&mut Reader<'_>, u32, Form) -> Result<(), NoMemory>> Grammar<F> {
     }
 
     /// A `,`, or what closes the object.
-    #[tactic(auto, unfolding(js_grammar::specs::Expressions::comma_before))]
+    #[tactic(auto, unfolding(parser_rules::specs::Expressions::comma_before))]
     pub fn comma_before_brace(&self, reader: &mut Reader<'_>) -> Result<(), NoMemory>
         requires { Nests self.now.levels (F.pre self.now.inside) (F.post self.now.inside) }
         ensures { Runs self.now.levels (comma_before classes.BraceClose) result reader.old reader.new }
@@ -162,7 +162,7 @@ impl<F: Fn(&mut Reader<'_>, u32, Form) -> Result<(), NoMemory>> Grammar<F> {
     }
 
     /// Statements and declarations, up to a `}` or the end.
-    #[tactic(auto, unfolding(js_grammar::specs::Expressions::item_list))]
+    #[tactic(auto, unfolding(parser_rules::specs::Expressions::item_list))]
     pub fn item_list(&self, reader: &mut Reader<'_>) -> Result<(), NoMemory>
         requires { Nests self.now.levels (F.pre self.now.inside) (F.post self.now.inside) }
         ensures { Runs self.now.levels item_list result reader.old reader.new }

@@ -3,21 +3,21 @@
 use crate::grammar::Grammar;
 use crate::reader::Reader;
 use ivm_text::NoMemory;
-use js_grammar::{Class, Form};
 use js_syntax::Kind;
+use parser_rules::{Class, Form};
 
 impl<F: Fn(&mut Reader<'_>, u32, Form) -> Result<(), NoMemory>> Grammar<F> {
     ghost use Rattle.std.specs.Prelude.{[], ◌∷◌};
-    ghost use Rattle.js_grammar.specs.declared.class.Class.TheVariants as classes;
-    ghost use Rattle.js_grammar.specs.declared.form.Form.TheVariants as forms;
-    ghost use Rattle.js_grammar.specs.Rules.{either, inside, many, sees_other, sees_passing};
-    ghost use Rattle.js_grammar.specs.Expressions.{comma_before};
-    ghost use Rattle.js_grammar.specs.Literals.{argument, arguments_text, constant_word, literal, literal_array, literal_element, literal_object, literal_property, literal_text, negated_number, negative, passed_name, passing, passing_word, text_end};
+    ghost use Rattle.parser_rules.specs.declared.class.Class.TheVariants as classes;
+    ghost use Rattle.parser_rules.specs.declared.form.Form.TheVariants as forms;
+    ghost use Rattle.parser_rules.specs.Rules.{either, inside, many, sees_other, sees_passing};
+    ghost use Rattle.parser_rules.specs.Expressions.{comma_before};
+    ghost use Rattle.parser_rules.specs.Literals.{argument, arguments_text, constant_word, literal, literal_array, literal_element, literal_object, literal_property, literal_text, negated_number, negative, passed_name, passing, passing_word, text_end};
     ghost use Rattle.js_parser.specs.State.{Runs};
     ghost use Rattle.js_parser.specs.Nests.{Nests};
 
     /// A number other than 0, behind its `-`.
-    #[tactic(auto, unfolding(js_grammar::specs::Literals::negated_number))]
+    #[tactic(auto, unfolding(parser_rules::specs::Literals::negated_number))]
     fn negated_number(&self, reader: &mut Reader<'_>) -> Result<(), NoMemory>
         requires { Nests self.now.levels (F.pre self.now.inside) (F.post self.now.inside) }
         ensures { Runs self.now.levels negated_number result reader.old reader.new }
@@ -29,7 +29,7 @@ impl<F: Fn(&mut Reader<'_>, u32, Form) -> Result<(), NoMemory>> Grammar<F> {
     }
 
     /// A `-` and the number behind it.
-    #[tactic(auto, unfolding(js_grammar::specs::Literals::negative))]
+    #[tactic(auto, unfolding(parser_rules::specs::Literals::negative))]
     fn negative(&self, reader: &mut Reader<'_>) -> Result<(), NoMemory>
         requires { Nests self.now.levels (F.pre self.now.inside) (F.post self.now.inside) }
         ensures { Runs self.now.levels negative result reader.old reader.new }
@@ -41,7 +41,7 @@ impl<F: Fn(&mut Reader<'_>, u32, Form) -> Result<(), NoMemory>> Grammar<F> {
     }
 
     /// A word that is a literal.
-    #[tactic(auto, unfolding(js_grammar::specs::Literals::constant_word))]
+    #[tactic(auto, unfolding(parser_rules::specs::Literals::constant_word))]
     fn constant_word(&self, reader: &mut Reader<'_>) -> Result<(), NoMemory>
         requires { Nests self.now.levels (F.pre self.now.inside) (F.post self.now.inside) }
         ensures { Runs self.now.levels constant_word result reader.old reader.new }
@@ -61,7 +61,7 @@ impl<F: Fn(&mut Reader<'_>, u32, Form) -> Result<(), NoMemory>> Grammar<F> {
     }
 
     /// One literal of an array, and the `,` behind it.
-    #[tactic(auto, unfolding(js_grammar::specs::Literals::literal_element))]
+    #[tactic(auto, unfolding(parser_rules::specs::Literals::literal_element))]
     fn literal_element(&self, reader: &mut Reader<'_>) -> Result<(), NoMemory>
         requires { Nests self.now.levels (F.pre self.now.inside) (F.post self.now.inside) }
         ensures { Runs self.now.levels literal_element result reader.old reader.new }
@@ -82,7 +82,7 @@ impl<F: Fn(&mut Reader<'_>, u32, Form) -> Result<(), NoMemory>> Grammar<F> {
     }
 
     /// An array of literals.
-    #[tactic(auto, unfolding(js_grammar::specs::Literals::literal_array))]
+    #[tactic(auto, unfolding(parser_rules::specs::Literals::literal_array))]
     fn literal_array(&self, reader: &mut Reader<'_>) -> Result<(), NoMemory>
         requires { Nests self.now.levels (F.pre self.now.inside) (F.post self.now.inside) }
         ensures { Runs self.now.levels literal_array result reader.old reader.new }
@@ -95,7 +95,7 @@ impl<F: Fn(&mut Reader<'_>, u32, Form) -> Result<(), NoMemory>> Grammar<F> {
     }
 
     /// A key with its literal, and the `,` behind it.
-    #[tactic(auto, unfolding(js_grammar::specs::Literals::literal_property))]
+    #[tactic(auto, unfolding(parser_rules::specs::Literals::literal_property))]
     fn literal_property(&self, reader: &mut Reader<'_>) -> Result<(), NoMemory>
         requires { Nests self.now.levels (F.pre self.now.inside) (F.post self.now.inside) }
         ensures { Runs self.now.levels literal_property result reader.old reader.new }
@@ -119,7 +119,7 @@ impl<F: Fn(&mut Reader<'_>, u32, Form) -> Result<(), NoMemory>> Grammar<F> {
     }
 
     /// An object of keys and literals.
-    #[tactic(auto, unfolding(js_grammar::specs::Literals::literal_object))]
+    #[tactic(auto, unfolding(parser_rules::specs::Literals::literal_object))]
     fn literal_object(&self, reader: &mut Reader<'_>) -> Result<(), NoMemory>
         requires { Nests self.now.levels (F.pre self.now.inside) (F.post self.now.inside) }
         ensures { Runs self.now.levels literal_object result reader.old reader.new }
@@ -132,7 +132,7 @@ impl<F: Fn(&mut Reader<'_>, u32, Form) -> Result<(), NoMemory>> Grammar<F> {
     }
 
     /// A literal.
-    #[tactic(auto, unfolding(js_grammar::specs::Literals::literal))]
+    #[tactic(auto, unfolding(parser_rules::specs::Literals::literal))]
     pub fn literal(&self, reader: &mut Reader<'_>) -> Result<(), NoMemory>
         requires { Nests self.now.levels (F.pre self.now.inside) (F.post self.now.inside) }
         ensures { Runs self.now.levels literal result reader.old reader.new }
@@ -155,7 +155,7 @@ impl<F: Fn(&mut Reader<'_>, u32, Form) -> Result<(), NoMemory>> Grammar<F> {
     // ---- texts
 
     /// The end of the text.
-    #[tactic(auto, unfolding(js_grammar::specs::Literals::text_end))]
+    #[tactic(auto, unfolding(parser_rules::specs::Literals::text_end))]
     fn text_end(&self, reader: &mut Reader<'_>) -> Result<(), NoMemory>
         requires { Nests self.now.levels (F.pre self.now.inside) (F.post self.now.inside) }
         ensures { Runs self.now.levels text_end result reader.old reader.new }
@@ -169,7 +169,7 @@ impl<F: Fn(&mut Reader<'_>, u32, Form) -> Result<(), NoMemory>> Grammar<F> {
     }
 
     /// A text of one literal.
-    #[tactic(auto, unfolding(js_grammar::specs::Literals::literal_text))]
+    #[tactic(auto, unfolding(parser_rules::specs::Literals::literal_text))]
     pub fn literal_text(&self, reader: &mut Reader<'_>) -> Result<(), NoMemory>
         requires { Nests self.now.levels (F.pre self.now.inside) (F.post self.now.inside) }
         ensures { Runs self.now.levels literal_text result reader.old reader.new }
@@ -180,7 +180,7 @@ impl<F: Fn(&mut Reader<'_>, u32, Form) -> Result<(), NoMemory>> Grammar<F> {
     }
 
     /// The word that says what an argument passes.
-    #[tactic(auto, unfolding(js_grammar::specs::Literals::passing_word))]
+    #[tactic(auto, unfolding(parser_rules::specs::Literals::passing_word))]
     fn passing_word(&self, reader: &mut Reader<'_>) -> Result<(), NoMemory>
         requires { Nests self.now.levels (F.pre self.now.inside) (F.post self.now.inside) }
         ensures { Runs self.now.levels passing_word result reader.old reader.new }
@@ -192,7 +192,7 @@ impl<F: Fn(&mut Reader<'_>, u32, Form) -> Result<(), NoMemory>> Grammar<F> {
     }
 
     /// The word of what is passed, which may be a reserved one.
-    #[tactic(auto, unfolding(js_grammar::specs::Literals::passed_name))]
+    #[tactic(auto, unfolding(parser_rules::specs::Literals::passed_name))]
     fn passed_name(&self, reader: &mut Reader<'_>) -> Result<(), NoMemory>
         requires { Nests self.now.levels (F.pre self.now.inside) (F.post self.now.inside) }
         ensures { Runs self.now.levels passed_name result reader.old reader.new }
@@ -204,7 +204,7 @@ impl<F: Fn(&mut Reader<'_>, u32, Form) -> Result<(), NoMemory>> Grammar<F> {
     }
 
     /// An argument that is no literal, as `ref(x)`.
-    #[tactic(auto, unfolding(js_grammar::specs::Literals::passing))]
+    #[tactic(auto, unfolding(parser_rules::specs::Literals::passing))]
     fn passing(&self, reader: &mut Reader<'_>) -> Result<(), NoMemory>
         requires { Nests self.now.levels (F.pre self.now.inside) (F.post self.now.inside) }
         ensures { Runs self.now.levels passing result reader.old reader.new }
@@ -230,7 +230,7 @@ impl<F: Fn(&mut Reader<'_>, u32, Form) -> Result<(), NoMemory>> Grammar<F> {
     }
 
     /// A `,`, or the end of the text.
-    #[tactic(auto, unfolding(js_grammar::specs::Expressions::comma_before))]
+    #[tactic(auto, unfolding(parser_rules::specs::Expressions::comma_before))]
     fn comma_before_end(&self, reader: &mut Reader<'_>) -> Result<(), NoMemory>
         requires { Nests self.now.levels (F.pre self.now.inside) (F.post self.now.inside) }
         ensures { Runs self.now.levels (comma_before classes.End) result reader.old reader.new }
@@ -247,7 +247,7 @@ impl<F: Fn(&mut Reader<'_>, u32, Form) -> Result<(), NoMemory>> Grammar<F> {
     }
 
     /// One argument of a text, and the `,` behind it.
-    #[tactic(auto, unfolding(js_grammar::specs::Literals::argument))]
+    #[tactic(auto, unfolding(parser_rules::specs::Literals::argument))]
     fn passed_argument(&self, reader: &mut Reader<'_>) -> Result<(), NoMemory>
         requires { Nests self.now.levels (F.pre self.now.inside) (F.post self.now.inside) }
         ensures { Runs self.now.levels argument result reader.old reader.new }
@@ -268,7 +268,7 @@ impl<F: Fn(&mut Reader<'_>, u32, Form) -> Result<(), NoMemory>> Grammar<F> {
     }
 
     /// A text of arguments.
-    #[tactic(auto, unfolding(js_grammar::specs::Literals::arguments_text))]
+    #[tactic(auto, unfolding(parser_rules::specs::Literals::arguments_text))]
     pub fn arguments_text(&self, reader: &mut Reader<'_>) -> Result<(), NoMemory>
         requires { Nests self.now.levels (F.pre self.now.inside) (F.post self.now.inside) }
         ensures { Runs self.now.levels arguments_text result reader.old reader.new }

@@ -3,20 +3,20 @@
 use crate::grammar::Grammar;
 use crate::reader::Reader;
 use ivm_text::NoMemory;
-use js_grammar::{Class, Form};
 use js_syntax::Kind;
+use parser_rules::{Class, Form};
 
 impl<F: Fn(&mut Reader<'_>, u32, Form) -> Result<(), NoMemory>> Grammar<F> {
     ghost use Rattle.std.specs.Prelude.{[], ◌∷◌};
     ghost use Rattle.js_syntax.specs.declared.kind.Kind.TheVariants as kinds;
-    ghost use Rattle.js_grammar.specs.declared.class.Class.TheVariants as classes;
-    ghost use Rattle.js_grammar.specs.Rules.{act, either, many, sees, sees_other, shorthand};
-    ghost use Rattle.js_grammar.specs.Expressions.{array, construction, keyed_property, leaf, name_leaf, named_property, number_leaf, object, parenthesised, primary, property, property_value, simple_operand, text_leaf, word_leaf};
+    ghost use Rattle.parser_rules.specs.declared.class.Class.TheVariants as classes;
+    ghost use Rattle.parser_rules.specs.Rules.{act, either, many, sees, sees_other, shorthand};
+    ghost use Rattle.parser_rules.specs.Expressions.{array, construction, keyed_property, leaf, name_leaf, named_property, number_leaf, object, parenthesised, primary, property, property_value, simple_operand, text_leaf, word_leaf};
     ghost use Rattle.js_parser.specs.State.{Runs};
     ghost use Rattle.js_parser.specs.Nests.{Nests};
 
     /// The word `this`.
-    #[tactic(auto, unfolding(js_grammar::specs::Expressions::leaf))]
+    #[tactic(auto, unfolding(parser_rules::specs::Expressions::leaf))]
     fn leaf_this(&self, reader: &mut Reader<'_>) -> Result<(), NoMemory>
         requires { Nests self.now.levels (F.pre self.now.inside) (F.post self.now.inside) }
         ensures { Runs self.now.levels (leaf kinds.This classes.This) result reader.old reader.new }
@@ -27,7 +27,7 @@ impl<F: Fn(&mut Reader<'_>, u32, Form) -> Result<(), NoMemory>> Grammar<F> {
     }
 
     /// The word `undefined`.
-    #[tactic(auto, unfolding(js_grammar::specs::Expressions::leaf))]
+    #[tactic(auto, unfolding(parser_rules::specs::Expressions::leaf))]
     pub fn leaf_undefined(&self, reader: &mut Reader<'_>) -> Result<(), NoMemory>
         requires { Nests self.now.levels (F.pre self.now.inside) (F.post self.now.inside) }
         ensures { Runs self.now.levels (leaf kinds.Undefined classes.Undefined) result reader.old reader.new }
@@ -38,7 +38,7 @@ impl<F: Fn(&mut Reader<'_>, u32, Form) -> Result<(), NoMemory>> Grammar<F> {
     }
 
     /// The word `null`.
-    #[tactic(auto, unfolding(js_grammar::specs::Expressions::leaf))]
+    #[tactic(auto, unfolding(parser_rules::specs::Expressions::leaf))]
     pub fn leaf_null(&self, reader: &mut Reader<'_>) -> Result<(), NoMemory>
         requires { Nests self.now.levels (F.pre self.now.inside) (F.post self.now.inside) }
         ensures { Runs self.now.levels (leaf kinds.Null classes.Null) result reader.old reader.new }
@@ -49,7 +49,7 @@ impl<F: Fn(&mut Reader<'_>, u32, Form) -> Result<(), NoMemory>> Grammar<F> {
     }
 
     /// The word `true`.
-    #[tactic(auto, unfolding(js_grammar::specs::Expressions::leaf))]
+    #[tactic(auto, unfolding(parser_rules::specs::Expressions::leaf))]
     pub fn leaf_true(&self, reader: &mut Reader<'_>) -> Result<(), NoMemory>
         requires { Nests self.now.levels (F.pre self.now.inside) (F.post self.now.inside) }
         ensures { Runs self.now.levels (leaf kinds.True classes.True) result reader.old reader.new }
@@ -60,7 +60,7 @@ impl<F: Fn(&mut Reader<'_>, u32, Form) -> Result<(), NoMemory>> Grammar<F> {
     }
 
     /// The word `false`.
-    #[tactic(auto, unfolding(js_grammar::specs::Expressions::leaf))]
+    #[tactic(auto, unfolding(parser_rules::specs::Expressions::leaf))]
     pub fn leaf_false(&self, reader: &mut Reader<'_>) -> Result<(), NoMemory>
         requires { Nests self.now.levels (F.pre self.now.inside) (F.post self.now.inside) }
         ensures { Runs self.now.levels (leaf kinds.False classes.False) result reader.old reader.new }
@@ -71,7 +71,7 @@ impl<F: Fn(&mut Reader<'_>, u32, Form) -> Result<(), NoMemory>> Grammar<F> {
     }
 
     /// A name as a value.
-    #[tactic(auto, unfolding(js_grammar::specs::Expressions::name_leaf))]
+    #[tactic(auto, unfolding(parser_rules::specs::Expressions::name_leaf))]
     pub fn name_leaf(&self, reader: &mut Reader<'_>) -> Result<(), NoMemory>
         requires { Nests self.now.levels (F.pre self.now.inside) (F.post self.now.inside) }
         ensures { Runs self.now.levels name_leaf result reader.old reader.new }
@@ -82,7 +82,7 @@ impl<F: Fn(&mut Reader<'_>, u32, Form) -> Result<(), NoMemory>> Grammar<F> {
     }
 
     /// A number.
-    #[tactic(auto, unfolding(js_grammar::specs::Expressions::number_leaf))]
+    #[tactic(auto, unfolding(parser_rules::specs::Expressions::number_leaf))]
     pub fn number_leaf(&self, reader: &mut Reader<'_>) -> Result<(), NoMemory>
         requires { Nests self.now.levels (F.pre self.now.inside) (F.post self.now.inside) }
         ensures { Runs self.now.levels number_leaf result reader.old reader.new }
@@ -94,7 +94,7 @@ impl<F: Fn(&mut Reader<'_>, u32, Form) -> Result<(), NoMemory>> Grammar<F> {
     }
 
     /// A string.
-    #[tactic(auto, unfolding(js_grammar::specs::Expressions::text_leaf))]
+    #[tactic(auto, unfolding(parser_rules::specs::Expressions::text_leaf))]
     pub fn text_leaf(&self, reader: &mut Reader<'_>) -> Result<(), NoMemory>
         requires { Nests self.now.levels (F.pre self.now.inside) (F.post self.now.inside) }
         ensures { Runs self.now.levels text_leaf result reader.old reader.new }
@@ -106,7 +106,7 @@ impl<F: Fn(&mut Reader<'_>, u32, Form) -> Result<(), NoMemory>> Grammar<F> {
     }
 
     /// A word that is a value by itself.
-    #[tactic(auto, unfolding(js_grammar::specs::Expressions::word_leaf))]
+    #[tactic(auto, unfolding(parser_rules::specs::Expressions::word_leaf))]
     pub fn word_leaf(&self, reader: &mut Reader<'_>) -> Result<(), NoMemory>
         requires { Nests self.now.levels (F.pre self.now.inside) (F.post self.now.inside) }
         ensures { Runs self.now.levels word_leaf result reader.old reader.new }
@@ -128,7 +128,7 @@ impl<F: Fn(&mut Reader<'_>, u32, Form) -> Result<(), NoMemory>> Grammar<F> {
     }
 
     /// An array.
-    #[tactic(auto, unfolding(js_grammar::specs::Expressions::array))]
+    #[tactic(auto, unfolding(parser_rules::specs::Expressions::array))]
     pub fn array(&self, reader: &mut Reader<'_>) -> Result<(), NoMemory>
         requires { Nests self.now.levels (F.pre self.now.inside) (F.post self.now.inside) }
         ensures { Runs self.now.levels array result reader.old reader.new }
@@ -140,7 +140,7 @@ impl<F: Fn(&mut Reader<'_>, u32, Form) -> Result<(), NoMemory>> Grammar<F> {
     }
 
     /// `:` and the value of a key.
-    #[tactic(auto, unfolding(js_grammar::specs::Expressions::property_value))]
+    #[tactic(auto, unfolding(parser_rules::specs::Expressions::property_value))]
     pub fn property_value(&self, reader: &mut Reader<'_>) -> Result<(), NoMemory>
         requires { Nests self.now.levels (F.pre self.now.inside) (F.post self.now.inside) }
         ensures { Runs self.now.levels property_value result reader.old reader.new }
@@ -162,7 +162,7 @@ impl<F: Fn(&mut Reader<'_>, u32, Form) -> Result<(), NoMemory>> Grammar<F> {
     }
 
     /// A property whose key is a name.
-    #[tactic(auto, unfolding(js_grammar::specs::Expressions::named_property))]
+    #[tactic(auto, unfolding(parser_rules::specs::Expressions::named_property))]
     pub fn named_property(&self, reader: &mut Reader<'_>) -> Result<(), NoMemory>
         requires { Nests self.now.levels (F.pre self.now.inside) (F.post self.now.inside) }
         ensures { Runs self.now.levels named_property result reader.old reader.new }
@@ -172,7 +172,7 @@ impl<F: Fn(&mut Reader<'_>, u32, Form) -> Result<(), NoMemory>> Grammar<F> {
     }
 
     /// A property whose key is a reserved word, a string or a number.
-    #[tactic(auto, unfolding(js_grammar::specs::Expressions::keyed_property))]
+    #[tactic(auto, unfolding(parser_rules::specs::Expressions::keyed_property))]
     pub fn keyed_property(&self, reader: &mut Reader<'_>) -> Result<(), NoMemory>
         requires { Nests self.now.levels (F.pre self.now.inside) (F.post self.now.inside) }
         ensures { Runs self.now.levels keyed_property result reader.old reader.new }
@@ -195,7 +195,7 @@ impl<F: Fn(&mut Reader<'_>, u32, Form) -> Result<(), NoMemory>> Grammar<F> {
     }
 
     /// A property, and the `,` behind it.
-    #[tactic(auto, unfolding(js_grammar::specs::Expressions::property))]
+    #[tactic(auto, unfolding(parser_rules::specs::Expressions::property))]
     pub fn property(&self, reader: &mut Reader<'_>) -> Result<(), NoMemory>
         requires { Nests self.now.levels (F.pre self.now.inside) (F.post self.now.inside) }
         ensures { Runs self.now.levels property result reader.old reader.new }
@@ -216,7 +216,7 @@ impl<F: Fn(&mut Reader<'_>, u32, Form) -> Result<(), NoMemory>> Grammar<F> {
     }
 
     /// An object.
-    #[tactic(auto, unfolding(js_grammar::specs::Expressions::object))]
+    #[tactic(auto, unfolding(parser_rules::specs::Expressions::object))]
     pub fn object(&self, reader: &mut Reader<'_>) -> Result<(), NoMemory>
         requires { Nests self.now.levels (F.pre self.now.inside) (F.post self.now.inside) }
         ensures { Runs self.now.levels object result reader.old reader.new }
@@ -229,7 +229,7 @@ impl<F: Fn(&mut Reader<'_>, u32, Form) -> Result<(), NoMemory>> Grammar<F> {
     }
 
     /// `new`, a constructor and its arguments.
-    #[tactic(auto, unfolding(js_grammar::specs::Expressions::construction))]
+    #[tactic(auto, unfolding(parser_rules::specs::Expressions::construction))]
     pub fn construction(&self, reader: &mut Reader<'_>) -> Result<(), NoMemory>
         requires { Nests self.now.levels (F.pre self.now.inside) (F.post self.now.inside) }
         ensures { Runs self.now.levels construction result reader.old reader.new }
@@ -244,7 +244,7 @@ impl<F: Fn(&mut Reader<'_>, u32, Form) -> Result<(), NoMemory>> Grammar<F> {
     }
 
     /// An operand, but names and parentheses.
-    #[tactic(auto, unfolding(js_grammar::specs::Expressions::primary))]
+    #[tactic(auto, unfolding(parser_rules::specs::Expressions::primary))]
     pub fn primary(&self, reader: &mut Reader<'_>) -> Result<(), NoMemory>
         requires { Nests self.now.levels (F.pre self.now.inside) (F.post self.now.inside) }
         ensures { Runs self.now.levels primary result reader.old reader.new }
@@ -267,7 +267,7 @@ impl<F: Fn(&mut Reader<'_>, u32, Form) -> Result<(), NoMemory>> Grammar<F> {
     }
 
     /// An expression in parentheses, where no arrow function may stand.
-    #[tactic(auto, unfolding(js_grammar::specs::Expressions::parenthesised))]
+    #[tactic(auto, unfolding(parser_rules::specs::Expressions::parenthesised))]
     pub fn parenthesised(&self, reader: &mut Reader<'_>) -> Result<(), NoMemory>
         requires { Nests self.now.levels (F.pre self.now.inside) (F.post self.now.inside) }
         ensures { Runs self.now.levels parenthesised result reader.old reader.new }
@@ -280,7 +280,7 @@ impl<F: Fn(&mut Reader<'_>, u32, Form) -> Result<(), NoMemory>> Grammar<F> {
     }
 
     /// What calls, members and operators behind it may follow.
-    #[tactic(auto, unfolding(js_grammar::specs::Expressions::simple_operand))]
+    #[tactic(auto, unfolding(parser_rules::specs::Expressions::simple_operand))]
     pub fn simple_operand(&self, reader: &mut Reader<'_>) -> Result<(), NoMemory>
         requires { Nests self.now.levels (F.pre self.now.inside) (F.post self.now.inside) }
         ensures { Runs self.now.levels simple_operand result reader.old reader.new }

@@ -3,8 +3,8 @@
 use crate::grammar::Grammar;
 use crate::reader::Reader;
 use ivm_text::NoMemory;
-use js_grammar::{Class, Form};
 use js_syntax::Kind;
+use parser_rules::{Class, Form};
 
 const PREFIX: &[Class] = &[
     Class::Not,
@@ -27,14 +27,14 @@ const ASSIGNMENTS: &[Class] = &[
 
 impl<F: Fn(&mut Reader<'_>, u32, Form) -> Result<(), NoMemory>> Grammar<F> {
     ghost use Rattle.std.specs.Prelude.{[], ◌∷◌};
-    ghost use Rattle.js_grammar.specs.declared.class.Class.TheVariants as classes;
-    ghost use Rattle.js_grammar.specs.Rules.{nothing_more, either, many, sees, ◌▸◌};
-    ghost use Rattle.js_grammar.specs.Expressions.{access, assigned, assignment, assignments, call, called_operand, calls, choice, coalescing, coalescings, comparison, comparison_operators, comparisons, conditional, conjunction, conjunctions, disjunction, equalities, equality, equality_operators, index, logical, member, operand, postfix, prefix, product, products, short_circuit, stepped, sum_operators, sum_step, sums};
+    ghost use Rattle.parser_rules.specs.declared.class.Class.TheVariants as classes;
+    ghost use Rattle.parser_rules.specs.Rules.{nothing_more, either, many, sees, ◌▸◌};
+    ghost use Rattle.parser_rules.specs.Expressions.{access, assigned, assignment, assignments, call, called_operand, calls, choice, coalescing, coalescings, comparison, comparison_operators, comparisons, conditional, conjunction, conjunctions, disjunction, equalities, equality, equality_operators, index, logical, member, operand, postfix, prefix, product, products, short_circuit, stepped, sum_operators, sum_step, sums};
     ghost use Rattle.js_parser.specs.State.{Runs};
     ghost use Rattle.js_parser.specs.Nests.{Nests};
 
     /// `.` and a key.
-    #[tactic(auto, unfolding(js_grammar::specs::Expressions::member))]
+    #[tactic(auto, unfolding(parser_rules::specs::Expressions::member))]
     pub fn member(&self, reader: &mut Reader<'_>) -> Result<(), NoMemory>
         requires { Nests self.now.levels (F.pre self.now.inside) (F.post self.now.inside) }
         ensures { Runs self.now.levels member result reader.old reader.new }
@@ -47,7 +47,7 @@ impl<F: Fn(&mut Reader<'_>, u32, Form) -> Result<(), NoMemory>> Grammar<F> {
     }
 
     /// A key in brackets.
-    #[tactic(auto, unfolding(js_grammar::specs::Expressions::index))]
+    #[tactic(auto, unfolding(parser_rules::specs::Expressions::index))]
     pub fn index(&self, reader: &mut Reader<'_>) -> Result<(), NoMemory>
         requires { Nests self.now.levels (F.pre self.now.inside) (F.post self.now.inside) }
         ensures { Runs self.now.levels index result reader.old reader.new }
@@ -60,7 +60,7 @@ impl<F: Fn(&mut Reader<'_>, u32, Form) -> Result<(), NoMemory>> Grammar<F> {
     }
 
     /// The arguments of a call.
-    #[tactic(auto, unfolding(js_grammar::specs::Expressions::call))]
+    #[tactic(auto, unfolding(parser_rules::specs::Expressions::call))]
     pub fn call(&self, reader: &mut Reader<'_>) -> Result<(), NoMemory>
         requires { Nests self.now.levels (F.pre self.now.inside) (F.post self.now.inside) }
         ensures { Runs self.now.levels call result reader.old reader.new }
@@ -72,7 +72,7 @@ impl<F: Fn(&mut Reader<'_>, u32, Form) -> Result<(), NoMemory>> Grammar<F> {
     }
 
     /// A member, an index or a call.
-    #[tactic(auto, unfolding(js_grammar::specs::Expressions::access))]
+    #[tactic(auto, unfolding(parser_rules::specs::Expressions::access))]
     pub fn access(&self, reader: &mut Reader<'_>) -> Result<(), NoMemory>
         requires { Nests self.now.levels (F.pre self.now.inside) (F.post self.now.inside) }
         ensures { Runs self.now.levels access result reader.old reader.new }
@@ -87,7 +87,7 @@ impl<F: Fn(&mut Reader<'_>, u32, Form) -> Result<(), NoMemory>> Grammar<F> {
     }
 
     /// Members, indices and calls, which lean to the left.
-    #[tactic(auto, unfolding(js_grammar::specs::Expressions::calls))]
+    #[tactic(auto, unfolding(parser_rules::specs::Expressions::calls))]
     pub fn calls(&self, reader: &mut Reader<'_>) -> Result<(), NoMemory>
         requires { Nests self.now.levels (F.pre self.now.inside) (F.post self.now.inside) }
         ensures { Runs self.now.levels calls result reader.old reader.new }
@@ -99,7 +99,7 @@ impl<F: Fn(&mut Reader<'_>, u32, Form) -> Result<(), NoMemory>> Grammar<F> {
     }
 
     /// `++` or `--` behind its operand.
-    #[tactic(auto, unfolding(js_grammar::specs::Expressions::stepped))]
+    #[tactic(auto, unfolding(parser_rules::specs::Expressions::stepped))]
     pub fn stepped(&self, reader: &mut Reader<'_>) -> Result<(), NoMemory>
         requires { Nests self.now.levels (F.pre self.now.inside) (F.post self.now.inside) }
         ensures { Runs self.now.levels stepped result reader.old reader.new }
@@ -110,7 +110,7 @@ impl<F: Fn(&mut Reader<'_>, u32, Form) -> Result<(), NoMemory>> Grammar<F> {
     }
 
     /// `++` or `--` behind its operand, if it stands on the same line.
-    #[tactic(auto, unfolding(js_grammar::specs::Expressions::postfix))]
+    #[tactic(auto, unfolding(parser_rules::specs::Expressions::postfix))]
     pub fn postfix(&self, reader: &mut Reader<'_>) -> Result<(), NoMemory>
         requires { Nests self.now.levels (F.pre self.now.inside) (F.post self.now.inside) }
         ensures { Runs self.now.levels postfix result reader.old reader.new }
@@ -123,7 +123,7 @@ impl<F: Fn(&mut Reader<'_>, u32, Form) -> Result<(), NoMemory>> Grammar<F> {
     }
 
     /// An operand with what stands behind it.
-    #[tactic(auto, unfolding(js_grammar::specs::Expressions::called_operand))]
+    #[tactic(auto, unfolding(parser_rules::specs::Expressions::called_operand))]
     pub fn called_operand(&self, reader: &mut Reader<'_>) -> Result<(), NoMemory>
         requires { Nests self.now.levels (F.pre self.now.inside) (F.post self.now.inside) }
         ensures { Runs self.now.levels called_operand result reader.old reader.new }
@@ -134,7 +134,7 @@ impl<F: Fn(&mut Reader<'_>, u32, Form) -> Result<(), NoMemory>> Grammar<F> {
     }
 
     /// An operand, with the operators before it.
-    #[tactic(auto, unfolding(js_grammar::specs::Expressions::operand))]
+    #[tactic(auto, unfolding(parser_rules::specs::Expressions::operand))]
     pub fn operand(&self, reader: &mut Reader<'_>) -> Result<(), NoMemory>
         requires { Nests self.now.levels (F.pre self.now.inside) (F.post self.now.inside) }
         ensures { Runs self.now.levels operand result reader.old reader.new }
@@ -147,7 +147,7 @@ impl<F: Fn(&mut Reader<'_>, u32, Form) -> Result<(), NoMemory>> Grammar<F> {
     }
 
     /// An operator before its operand.
-    #[tactic(auto, unfolding(js_grammar::specs::Expressions::prefix))]
+    #[tactic(auto, unfolding(parser_rules::specs::Expressions::prefix))]
     pub fn prefix(&self, reader: &mut Reader<'_>) -> Result<(), NoMemory>
         requires { Nests self.now.levels (F.pre self.now.inside) (F.post self.now.inside) }
         ensures { Runs self.now.levels prefix result reader.old reader.new }
@@ -159,7 +159,7 @@ impl<F: Fn(&mut Reader<'_>, u32, Form) -> Result<(), NoMemory>> Grammar<F> {
     }
 
     /// `*`, `/` or `%` and its right operand.
-    #[tactic(auto, unfolding(js_grammar::specs::Expressions::product))]
+    #[tactic(auto, unfolding(parser_rules::specs::Expressions::product))]
     pub fn product(&self, reader: &mut Reader<'_>) -> Result<(), NoMemory>
         requires { Nests self.now.levels (F.pre self.now.inside) (F.post self.now.inside) }
         ensures { Runs self.now.levels product result reader.old reader.new }
@@ -171,7 +171,7 @@ impl<F: Fn(&mut Reader<'_>, u32, Form) -> Result<(), NoMemory>> Grammar<F> {
     }
 
     /// Behind an operand: factors.
-    #[tactic(auto, unfolding(js_grammar::specs::Expressions::products))]
+    #[tactic(auto, unfolding(parser_rules::specs::Expressions::products))]
     pub fn products(&self, reader: &mut Reader<'_>) -> Result<(), NoMemory>
         requires { Nests self.now.levels (F.pre self.now.inside) (F.post self.now.inside) }
         ensures { Runs self.now.levels products result reader.old reader.new }
@@ -183,7 +183,7 @@ impl<F: Fn(&mut Reader<'_>, u32, Form) -> Result<(), NoMemory>> Grammar<F> {
     }
 
     /// `+` or `-` and its right operand.
-    #[tactic(auto, unfolding(js_grammar::specs::Expressions::sum_step))]
+    #[tactic(auto, unfolding(parser_rules::specs::Expressions::sum_step))]
     pub fn sum_step(&self, reader: &mut Reader<'_>) -> Result<(), NoMemory>
         requires { Nests self.now.levels (F.pre self.now.inside) (F.post self.now.inside) }
         ensures { Runs self.now.levels sum_step result reader.old reader.new }
@@ -207,7 +207,7 @@ impl<F: Fn(&mut Reader<'_>, u32, Form) -> Result<(), NoMemory>> Grammar<F> {
     }
 
     /// Behind an operand: factors and summands.
-    #[tactic(auto, unfolding(js_grammar::specs::Expressions::sums))]
+    #[tactic(auto, unfolding(parser_rules::specs::Expressions::sums))]
     pub fn sums(&self, reader: &mut Reader<'_>) -> Result<(), NoMemory>
         requires { Nests self.now.levels (F.pre self.now.inside) (F.post self.now.inside) }
         ensures { Runs self.now.levels sums result reader.old reader.new }
@@ -217,7 +217,7 @@ impl<F: Fn(&mut Reader<'_>, u32, Form) -> Result<(), NoMemory>> Grammar<F> {
     }
 
     /// `<`, `>`, `<=` or `>=` and its right operand.
-    #[tactic(auto, unfolding(js_grammar::specs::Expressions::comparison))]
+    #[tactic(auto, unfolding(parser_rules::specs::Expressions::comparison))]
     pub fn comparison(&self, reader: &mut Reader<'_>) -> Result<(), NoMemory>
         requires { Nests self.now.levels (F.pre self.now.inside) (F.post self.now.inside) }
         ensures { Runs self.now.levels comparison result reader.old reader.new }
@@ -241,7 +241,7 @@ impl<F: Fn(&mut Reader<'_>, u32, Form) -> Result<(), NoMemory>> Grammar<F> {
     }
 
     /// Behind an operand: what binds as tight as a comparison.
-    #[tactic(auto, unfolding(js_grammar::specs::Expressions::comparisons))]
+    #[tactic(auto, unfolding(parser_rules::specs::Expressions::comparisons))]
     pub fn comparisons(&self, reader: &mut Reader<'_>) -> Result<(), NoMemory>
         requires { Nests self.now.levels (F.pre self.now.inside) (F.post self.now.inside) }
         ensures { Runs self.now.levels comparisons result reader.old reader.new }
@@ -251,7 +251,7 @@ impl<F: Fn(&mut Reader<'_>, u32, Form) -> Result<(), NoMemory>> Grammar<F> {
     }
 
     /// `===` or `!==` and its right operand.
-    #[tactic(auto, unfolding(js_grammar::specs::Expressions::equality))]
+    #[tactic(auto, unfolding(parser_rules::specs::Expressions::equality))]
     pub fn equality(&self, reader: &mut Reader<'_>) -> Result<(), NoMemory>
         requires { Nests self.now.levels (F.pre self.now.inside) (F.post self.now.inside) }
         ensures { Runs self.now.levels equality result reader.old reader.new }
@@ -275,7 +275,7 @@ impl<F: Fn(&mut Reader<'_>, u32, Form) -> Result<(), NoMemory>> Grammar<F> {
     }
 
     /// Behind an operand: what binds as tight as an equality.
-    #[tactic(auto, unfolding(js_grammar::specs::Expressions::equalities))]
+    #[tactic(auto, unfolding(parser_rules::specs::Expressions::equalities))]
     pub fn equalities(&self, reader: &mut Reader<'_>) -> Result<(), NoMemory>
         requires { Nests self.now.levels (F.pre self.now.inside) (F.post self.now.inside) }
         ensures { Runs self.now.levels equalities result reader.old reader.new }
@@ -285,7 +285,7 @@ impl<F: Fn(&mut Reader<'_>, u32, Form) -> Result<(), NoMemory>> Grammar<F> {
     }
 
     /// `??` and its right operand.
-    #[tactic(auto, unfolding(js_grammar::specs::Expressions::coalescing))]
+    #[tactic(auto, unfolding(parser_rules::specs::Expressions::coalescing))]
     pub fn coalescing(&self, reader: &mut Reader<'_>) -> Result<(), NoMemory>
         requires { Nests self.now.levels (F.pre self.now.inside) (F.post self.now.inside) }
         ensures { Runs self.now.levels coalescing result reader.old reader.new }
@@ -298,7 +298,7 @@ impl<F: Fn(&mut Reader<'_>, u32, Form) -> Result<(), NoMemory>> Grammar<F> {
     }
 
     /// Operands of `??`.
-    #[tactic(auto, unfolding(js_grammar::specs::Expressions::coalescings))]
+    #[tactic(auto, unfolding(parser_rules::specs::Expressions::coalescings))]
     pub fn coalescings(&self, reader: &mut Reader<'_>) -> Result<(), NoMemory>
         requires { Nests self.now.levels (F.pre self.now.inside) (F.post self.now.inside) }
         ensures { Runs self.now.levels coalescings result reader.old reader.new }
@@ -310,7 +310,7 @@ impl<F: Fn(&mut Reader<'_>, u32, Form) -> Result<(), NoMemory>> Grammar<F> {
     }
 
     /// `&&` and its right operand.
-    #[tactic(auto, unfolding(js_grammar::specs::Expressions::conjunction))]
+    #[tactic(auto, unfolding(parser_rules::specs::Expressions::conjunction))]
     pub fn conjunction(&self, reader: &mut Reader<'_>) -> Result<(), NoMemory>
         requires { Nests self.now.levels (F.pre self.now.inside) (F.post self.now.inside) }
         ensures { Runs self.now.levels conjunction result reader.old reader.new }
@@ -323,7 +323,7 @@ impl<F: Fn(&mut Reader<'_>, u32, Form) -> Result<(), NoMemory>> Grammar<F> {
     }
 
     /// Operands of `&&`.
-    #[tactic(auto, unfolding(js_grammar::specs::Expressions::conjunctions))]
+    #[tactic(auto, unfolding(parser_rules::specs::Expressions::conjunctions))]
     pub fn conjunctions(&self, reader: &mut Reader<'_>) -> Result<(), NoMemory>
         requires { Nests self.now.levels (F.pre self.now.inside) (F.post self.now.inside) }
         ensures { Runs self.now.levels conjunctions result reader.old reader.new }
@@ -335,7 +335,7 @@ impl<F: Fn(&mut Reader<'_>, u32, Form) -> Result<(), NoMemory>> Grammar<F> {
     }
 
     /// `||` and its right operand.
-    #[tactic(auto, unfolding(js_grammar::specs::Expressions::disjunction))]
+    #[tactic(auto, unfolding(parser_rules::specs::Expressions::disjunction))]
     pub fn disjunction(&self, reader: &mut Reader<'_>) -> Result<(), NoMemory>
         requires { Nests self.now.levels (F.pre self.now.inside) (F.post self.now.inside) }
         ensures { Runs self.now.levels disjunction result reader.old reader.new }
@@ -360,7 +360,7 @@ impl<F: Fn(&mut Reader<'_>, u32, Form) -> Result<(), NoMemory>> Grammar<F> {
     }
 
     /// Operands of `&&` and `||`.
-    #[tactic(auto, unfolding(js_grammar::specs::Expressions::logical))]
+    #[tactic(auto, unfolding(parser_rules::specs::Expressions::logical))]
     pub fn logical(&self, reader: &mut Reader<'_>) -> Result<(), NoMemory>
         requires { Nests self.now.levels (F.pre self.now.inside) (F.post self.now.inside) }
         ensures { Runs self.now.levels logical result reader.old reader.new }
@@ -382,7 +382,7 @@ impl<F: Fn(&mut Reader<'_>, u32, Form) -> Result<(), NoMemory>> Grammar<F> {
     }
 
     /// Behind an operand: the operators between operands.
-    #[tactic(auto, unfolding(js_grammar::specs::Expressions::short_circuit))]
+    #[tactic(auto, unfolding(parser_rules::specs::Expressions::short_circuit))]
     pub fn short_circuit(&self, reader: &mut Reader<'_>) -> Result<(), NoMemory>
         requires { Nests self.now.levels (F.pre self.now.inside) (F.post self.now.inside) }
         ensures { Runs self.now.levels short_circuit result reader.old reader.new }
@@ -392,7 +392,7 @@ impl<F: Fn(&mut Reader<'_>, u32, Form) -> Result<(), NoMemory>> Grammar<F> {
     }
 
     /// `?`, `:` and what they choose from.
-    #[tactic(auto, unfolding(js_grammar::specs::Expressions::choice))]
+    #[tactic(auto, unfolding(parser_rules::specs::Expressions::choice))]
     pub fn choice(&self, reader: &mut Reader<'_>) -> Result<(), NoMemory>
         requires { Nests self.now.levels (F.pre self.now.inside) (F.post self.now.inside) }
         ensures { Runs self.now.levels choice result reader.old reader.new }
@@ -418,7 +418,7 @@ impl<F: Fn(&mut Reader<'_>, u32, Form) -> Result<(), NoMemory>> Grammar<F> {
     }
 
     /// Behind an operand: the operators, and a choice.
-    #[tactic(auto, unfolding(js_grammar::specs::Expressions::conditional))]
+    #[tactic(auto, unfolding(parser_rules::specs::Expressions::conditional))]
     pub fn conditional(&self, reader: &mut Reader<'_>) -> Result<(), NoMemory>
         requires { Nests self.now.levels (F.pre self.now.inside) (F.post self.now.inside) }
         ensures { Runs self.now.levels conditional result reader.old reader.new }
@@ -428,7 +428,7 @@ impl<F: Fn(&mut Reader<'_>, u32, Form) -> Result<(), NoMemory>> Grammar<F> {
     }
 
     /// An assignment operator and what is assigned.
-    #[tactic(auto, unfolding(js_grammar::specs::Expressions::assigned))]
+    #[tactic(auto, unfolding(parser_rules::specs::Expressions::assigned))]
     pub fn assigned(&self, reader: &mut Reader<'_>) -> Result<(), NoMemory>
         requires { Nests self.now.levels (F.pre self.now.inside) (F.post self.now.inside) }
         ensures { Runs self.now.levels assigned result reader.old reader.new }
@@ -461,7 +461,7 @@ impl<F: Fn(&mut Reader<'_>, u32, Form) -> Result<(), NoMemory>> Grammar<F> {
     }
 
     /// The rest of an expression that began with what may be assigned to.
-    #[tactic(auto, unfolding(js_grammar::specs::Expressions::assignment))]
+    #[tactic(auto, unfolding(parser_rules::specs::Expressions::assignment))]
     pub fn assignment(&self, reader: &mut Reader<'_>) -> Result<(), NoMemory>
         requires { Nests self.now.levels (F.pre self.now.inside) (F.post self.now.inside) }
         ensures { Runs self.now.levels assignment result reader.old reader.new }

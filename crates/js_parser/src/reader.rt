@@ -1,15 +1,15 @@
 //! The tokens that are left, with one of them in view, and the forms that are open.
 
 ghost use Rattle.std.specs.Prelude.{◌≡◌, ◌≤◌, length, drop};
-ghost use Rattle.js_grammar.specs.Classes.{class_of};
-ghost use Rattle.js_grammar.specs.Rules.{is_names, is_parameters, prefix_kind, operator_kind};
+ghost use Rattle.parser_rules.specs.Classes.{class_of};
+ghost use Rattle.parser_rules.specs.Rules.{is_names, is_parameters, prefix_kind, operator_kind};
 
 use crate::builder::Builder;
 use crate::classes::{class_of, is_among, is_passing_word};
 use ivm_text::NoMemory;
-use js_grammar::{Class, Cover, Why};
 use js_lexer::{Token, TokenKind};
 use js_syntax::Kind;
+use parser_rules::{Class, Cover, Why};
 
 /// Where reading stands.
 #[derive(Drop)]
@@ -28,9 +28,9 @@ pub(crate) struct Reader<'a> {
 
 impl Reader<'_> {
     ghost use Rattle.std.specs.Prelude.{◌≡◌, ◌∷◌, [], true, ◌&&◌, not, None};
-    ghost use Rattle.js_grammar.specs.Rules.{after};
-    ghost use Rattle.js_grammar.specs.Work.{place_of};
-    ghost use Rattle.js_grammar.specs.Rules.{Test, passes, passes_on, is_line, ends_statement, kind_passes, is_word_kind, is_key_kind, is_nonzero, is_passing, is_names, is_parameters, refused, sees, sees_other, sees_on_line, sees_word, sees_key, sees_nonzero, sees_passing, after_line, may_end, may_be_parameters, must_be_parameters, open_form, open_prefix, precede, precede_operator, close, pair, unwrap, name_it, declare, key, value, shorthand, offer, parameters_only, clear, omit, prefix_kind, operator_kind};
+    ghost use Rattle.parser_rules.specs.Rules.{after};
+    ghost use Rattle.parser_rules.specs.Work.{place_of};
+    ghost use Rattle.parser_rules.specs.Rules.{Test, passes, passes_on, is_line, ends_statement, kind_passes, is_word_kind, is_key_kind, is_nonzero, is_passing, is_names, is_parameters, refused, sees, sees_other, sees_on_line, sees_word, sees_key, sees_nonzero, sees_passing, after_line, may_end, may_be_parameters, must_be_parameters, open_form, open_prefix, precede, precede_operator, close, pair, unwrap, name_it, declare, key, value, shorthand, offer, parameters_only, clear, omit, prefix_kind, operator_kind};
     ghost use Rattle.js_parser.specs.State.{state_of, rest_of, Acts, Takes};
 
     // ---- what is in view

@@ -3,9 +3,9 @@
 ghost use Rattle.std.specs.Prelude.{◌≡◌, ◌<◌, ◌^◌, List, length, IfOk, IfErr};
 ghost use Rattle.js_syntax.specs.Tree.{IsTreeOf};
 ghost use Rattle.js_lexer.specs.declared.token.Token.{Token};
-ghost use Rattle.js_grammar.specs.Statements.{script};
-ghost use Rattle.js_grammar.specs.Literals.{literal_text, arguments_text};
-ghost use Rattle.js_grammar.specs.Grammar.{within, at_start, answer_by, accepted, limit, tree_of_parts};
+ghost use Rattle.parser_rules.specs.Statements.{script};
+ghost use Rattle.parser_rules.specs.Literals.{literal_text, arguments_text};
+ghost use Rattle.parser_rules.specs.Grammar.{within, at_start, answer_by, accepted, limit, tree_of_parts};
 ghost use Rattle.js_parser.specs.State.{state_of, Runs};
 ghost use Rattle.js_parser.specs.Accepted.{IsAccepted, IsFaultBy, IsRejected, rule_for};
 ghost use Rattle.js_parser.specs.View.{tree_of};
@@ -18,11 +18,10 @@ use crate::draft::Draft;
 use crate::grammar::Grammar;
 use crate::limit::{refusal, stop_beyond};
 use crate::reader::Reader;
-use item_list::Items;
-use ivm_text::NoMemory;
-use js_grammar::Form;
+use ivm_text::{Items, NoMemory};
 use js_lexer::{SyntaxFault, Token, lex};
 use js_syntax::{Kind, Script};
+use parser_rules::Form;
 use std::alloc::Global;
 
 /// How many statements, expressions and operators before an operand may be open at a token; and in texts of literals, how

@@ -4,8 +4,7 @@ ghost use Rattle.std.specs.Prelude.{◌≡◌, ℕ, ◌<◌, ◌∷◌, ◌++◌
 ghost use Rattle.js_parser.specs.View.{known, all_known};
 
 use crate::draft::{Draft, Piece};
-use item_list::Items;
-use ivm_text::NoMemory;
+use ivm_text::{Items, NoMemory};
 
 /// Puts a form on top of those that are open.
 pub(crate) fn put_draft(drafts: &mut Items<Draft>, draft: Draft) -> Result<(), NoMemory>

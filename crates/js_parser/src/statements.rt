@@ -3,8 +3,8 @@
 use crate::grammar::Grammar;
 use crate::reader::Reader;
 use ivm_text::NoMemory;
-use js_grammar::{Class, Form};
 use js_syntax::Kind;
+use parser_rules::{Class, Form};
 
 const EXPRESSION_STATEMENTS: &[Class] = &[
     Class::Name,
@@ -30,15 +30,15 @@ const EXPRESSION_STATEMENTS: &[Class] = &[
 impl<F: Fn(&mut Reader<'_>, u32, Form) -> Result<(), NoMemory>> Grammar<F> {
     ghost use Rattle.std.specs.Prelude.{[], ◌∷◌};
     ghost use Rattle.js_syntax.specs.declared.kind.Kind.TheVariants as kinds;
-    ghost use Rattle.js_grammar.specs.declared.class.Class.TheVariants as classes;
-    ghost use Rattle.js_grammar.specs.declared.form.Form.TheVariants.{Item};
-    ghost use Rattle.js_grammar.specs.Rules.{inside, many, sees_other};
-    ghost use Rattle.js_grammar.specs.Statements.{alternative, block, catch_clause, catch_name, caught_name, condition, else_branch, empty_statement, ended_expression, expression_before, expression_statement, finaliser, finaliser_if_any, for_head, for_start, for_statement, handlers, if_statement, item, jump, line_or_end, nothing_returned, only_finaliser, return_statement, returned, script, simple_statement, statement, throw_statement, thrown, try_statement, while_statement};
+    ghost use Rattle.parser_rules.specs.declared.class.Class.TheVariants as classes;
+    ghost use Rattle.parser_rules.specs.declared.form.Form.TheVariants.{Item};
+    ghost use Rattle.parser_rules.specs.Rules.{inside, many, sees_other};
+    ghost use Rattle.parser_rules.specs.Statements.{alternative, block, catch_clause, catch_name, caught_name, condition, else_branch, empty_statement, ended_expression, expression_before, expression_statement, finaliser, finaliser_if_any, for_head, for_start, for_statement, handlers, if_statement, item, jump, line_or_end, nothing_returned, only_finaliser, return_statement, returned, script, simple_statement, statement, throw_statement, thrown, try_statement, while_statement};
     ghost use Rattle.js_parser.specs.State.{Runs};
     ghost use Rattle.js_parser.specs.Nests.{Nests};
 
     /// `;` alone.
-    #[tactic(auto, unfolding(js_grammar::specs::Statements::empty_statement))]
+    #[tactic(auto, unfolding(parser_rules::specs::Statements::empty_statement))]
     pub fn empty_statement(&self, reader: &mut Reader<'_>) -> Result<(), NoMemory>
         requires { Nests self.now.levels (F.pre self.now.inside) (F.post self.now.inside) }
         ensures { Runs self.now.levels empty_statement result reader.old reader.new }
@@ -49,7 +49,7 @@ impl<F: Fn(&mut Reader<'_>, u32, Form) -> Result<(), NoMemory>> Grammar<F> {
     }
 
     /// A block.
-    #[tactic(auto, unfolding(js_grammar::specs::Statements::block))]
+    #[tactic(auto, unfolding(parser_rules::specs::Statements::block))]
     pub fn block(&self, reader: &mut Reader<'_>) -> Result<(), NoMemory>
         requires { Nests self.now.levels (F.pre self.now.inside) (F.post self.now.inside) }
         ensures { Runs self.now.levels block result reader.old reader.new }
@@ -62,7 +62,7 @@ impl<F: Fn(&mut Reader<'_>, u32, Form) -> Result<(), NoMemory>> Grammar<F> {
     }
 
     /// A condition in parentheses.
-    #[tactic(auto, unfolding(js_grammar::specs::Statements::condition))]
+    #[tactic(auto, unfolding(parser_rules::specs::Statements::condition))]
     pub fn condition(&self, reader: &mut Reader<'_>) -> Result<(), NoMemory>
         requires { Nests self.now.levels (F.pre self.now.inside) (F.post self.now.inside) }
         ensures { Runs self.now.levels condition result reader.old reader.new }
@@ -74,7 +74,7 @@ impl<F: Fn(&mut Reader<'_>, u32, Form) -> Result<(), NoMemory>> Grammar<F> {
     }
 
     /// `else` and a statement.
-    #[tactic(auto, unfolding(js_grammar::specs::Statements::else_branch))]
+    #[tactic(auto, unfolding(parser_rules::specs::Statements::else_branch))]
     pub fn else_branch(&self, reader: &mut Reader<'_>) -> Result<(), NoMemory>
         requires { Nests self.now.levels (F.pre self.now.inside) (F.post self.now.inside) }
         ensures { Runs self.now.levels else_branch result reader.old reader.new }
@@ -84,7 +84,7 @@ impl<F: Fn(&mut Reader<'_>, u32, Form) -> Result<(), NoMemory>> Grammar<F> {
     }
 
     /// What an `if` does else, if it says so.
-    #[tactic(auto, unfolding(js_grammar::specs::Statements::alternative))]
+    #[tactic(auto, unfolding(parser_rules::specs::Statements::alternative))]
     pub fn alternative(&self, reader: &mut Reader<'_>) -> Result<(), NoMemory>
         requires { Nests self.now.levels (F.pre self.now.inside) (F.post self.now.inside) }
         ensures { Runs self.now.levels alternative result reader.old reader.new }
@@ -97,7 +97,7 @@ impl<F: Fn(&mut Reader<'_>, u32, Form) -> Result<(), NoMemory>> Grammar<F> {
     }
 
     /// An `if`.
-    #[tactic(auto, unfolding(js_grammar::specs::Statements::if_statement))]
+    #[tactic(auto, unfolding(parser_rules::specs::Statements::if_statement))]
     pub fn if_statement(&self, reader: &mut Reader<'_>) -> Result<(), NoMemory>
         requires { Nests self.now.levels (F.pre self.now.inside) (F.post self.now.inside) }
         ensures { Runs self.now.levels if_statement result reader.old reader.new }
@@ -111,7 +111,7 @@ impl<F: Fn(&mut Reader<'_>, u32, Form) -> Result<(), NoMemory>> Grammar<F> {
     }
 
     /// A `while`.
-    #[tactic(auto, unfolding(js_grammar::specs::Statements::while_statement))]
+    #[tactic(auto, unfolding(parser_rules::specs::Statements::while_statement))]
     pub fn while_statement(&self, reader: &mut Reader<'_>) -> Result<(), NoMemory>
         requires { Nests self.now.levels (F.pre self.now.inside) (F.post self.now.inside) }
         ensures { Runs self.now.levels while_statement result reader.old reader.new }
@@ -124,7 +124,7 @@ impl<F: Fn(&mut Reader<'_>, u32, Form) -> Result<(), NoMemory>> Grammar<F> {
     }
 
     /// An expression, or nothing.
-    #[tactic(auto, unfolding(js_grammar::specs::Statements::expression_before))]
+    #[tactic(auto, unfolding(parser_rules::specs::Statements::expression_before))]
     pub fn expression_before_semicolon(&self, reader: &mut Reader<'_>) -> Result<(), NoMemory>
         requires { Nests self.now.levels (F.pre self.now.inside) (F.post self.now.inside) }
         ensures { Runs self.now.levels (expression_before classes.Semicolon) result reader.old reader.new }
@@ -137,7 +137,7 @@ impl<F: Fn(&mut Reader<'_>, u32, Form) -> Result<(), NoMemory>> Grammar<F> {
     }
 
     /// An expression, or nothing.
-    #[tactic(auto, unfolding(js_grammar::specs::Statements::expression_before))]
+    #[tactic(auto, unfolding(parser_rules::specs::Statements::expression_before))]
     pub fn expression_before_paren(&self, reader: &mut Reader<'_>) -> Result<(), NoMemory>
         requires { Nests self.now.levels (F.pre self.now.inside) (F.post self.now.inside) }
         ensures { Runs self.now.levels (expression_before classes.ParenClose) result reader.old reader.new }
@@ -150,7 +150,7 @@ impl<F: Fn(&mut Reader<'_>, u32, Form) -> Result<(), NoMemory>> Grammar<F> {
     }
 
     /// What a `for` begins with.
-    #[tactic(auto, unfolding(js_grammar::specs::Statements::for_start))]
+    #[tactic(auto, unfolding(parser_rules::specs::Statements::for_start))]
     pub fn for_start(&self, reader: &mut Reader<'_>) -> Result<(), NoMemory>
         requires { Nests self.now.levels (F.pre self.now.inside) (F.post self.now.inside) }
         ensures { Runs self.now.levels for_start result reader.old reader.new }
@@ -165,7 +165,7 @@ impl<F: Fn(&mut Reader<'_>, u32, Form) -> Result<(), NoMemory>> Grammar<F> {
     }
 
     /// The head of a `for`.
-    #[tactic(auto, unfolding(js_grammar::specs::Statements::for_head))]
+    #[tactic(auto, unfolding(parser_rules::specs::Statements::for_head))]
     pub fn for_head(&self, reader: &mut Reader<'_>) -> Result<(), NoMemory>
         requires { Nests self.now.levels (F.pre self.now.inside) (F.post self.now.inside) }
         ensures { Runs self.now.levels for_head result reader.old reader.new }
@@ -181,7 +181,7 @@ impl<F: Fn(&mut Reader<'_>, u32, Form) -> Result<(), NoMemory>> Grammar<F> {
     }
 
     /// A `for`.
-    #[tactic(auto, unfolding(js_grammar::specs::Statements::for_statement))]
+    #[tactic(auto, unfolding(parser_rules::specs::Statements::for_statement))]
     pub fn for_statement(&self, reader: &mut Reader<'_>) -> Result<(), NoMemory>
         requires { Nests self.now.levels (F.pre self.now.inside) (F.post self.now.inside) }
         ensures { Runs self.now.levels for_statement result reader.old reader.new }
@@ -194,7 +194,7 @@ impl<F: Fn(&mut Reader<'_>, u32, Form) -> Result<(), NoMemory>> Grammar<F> {
     }
 
     /// The end of a statement that a line terminator ends.
-    #[tactic(auto, unfolding(js_grammar::specs::Statements::line_or_end))]
+    #[tactic(auto, unfolding(parser_rules::specs::Statements::line_or_end))]
     pub fn line_or_end(&self, reader: &mut Reader<'_>) -> Result<(), NoMemory>
         requires { Nests self.now.levels (F.pre self.now.inside) (F.post self.now.inside) }
         ensures { Runs self.now.levels line_or_end result reader.old reader.new }
@@ -207,7 +207,7 @@ impl<F: Fn(&mut Reader<'_>, u32, Form) -> Result<(), NoMemory>> Grammar<F> {
     }
 
     /// A `break`.
-    #[tactic(auto, unfolding(js_grammar::specs::Statements::jump))]
+    #[tactic(auto, unfolding(parser_rules::specs::Statements::jump))]
     pub fn break_statement(&self, reader: &mut Reader<'_>) -> Result<(), NoMemory>
         requires { Nests self.now.levels (F.pre self.now.inside) (F.post self.now.inside) }
         ensures { Runs self.now.levels (jump kinds.Break classes.Break) result reader.old reader.new }
@@ -219,7 +219,7 @@ impl<F: Fn(&mut Reader<'_>, u32, Form) -> Result<(), NoMemory>> Grammar<F> {
     }
 
     /// A `continue`.
-    #[tactic(auto, unfolding(js_grammar::specs::Statements::jump))]
+    #[tactic(auto, unfolding(parser_rules::specs::Statements::jump))]
     pub fn continue_statement(&self, reader: &mut Reader<'_>) -> Result<(), NoMemory>
         requires { Nests self.now.levels (F.pre self.now.inside) (F.post self.now.inside) }
         ensures { Runs self.now.levels (jump kinds.Continue classes.Continue) result reader.old reader.new }
@@ -231,7 +231,7 @@ impl<F: Fn(&mut Reader<'_>, u32, Form) -> Result<(), NoMemory>> Grammar<F> {
     }
 
     /// An expression and the end of its statement.
-    #[tactic(auto, unfolding(js_grammar::specs::Statements::ended_expression))]
+    #[tactic(auto, unfolding(parser_rules::specs::Statements::ended_expression))]
     pub fn ended_expression(&self, reader: &mut Reader<'_>) -> Result<(), NoMemory>
         requires { Nests self.now.levels (F.pre self.now.inside) (F.post self.now.inside) }
         ensures { Runs self.now.levels ended_expression result reader.old reader.new }
@@ -241,7 +241,7 @@ impl<F: Fn(&mut Reader<'_>, u32, Form) -> Result<(), NoMemory>> Grammar<F> {
     }
 
     /// The end of a `return` that gives nothing.
-    #[tactic(auto, unfolding(js_grammar::specs::Statements::nothing_returned))]
+    #[tactic(auto, unfolding(parser_rules::specs::Statements::nothing_returned))]
     pub fn nothing_returned(&self, reader: &mut Reader<'_>) -> Result<(), NoMemory>
         requires { Nests self.now.levels (F.pre self.now.inside) (F.post self.now.inside) }
         ensures { Runs self.now.levels nothing_returned result reader.old reader.new }
@@ -251,7 +251,7 @@ impl<F: Fn(&mut Reader<'_>, u32, Form) -> Result<(), NoMemory>> Grammar<F> {
     }
 
     /// What a `return` gives.
-    #[tactic(auto, unfolding(js_grammar::specs::Statements::returned))]
+    #[tactic(auto, unfolding(parser_rules::specs::Statements::returned))]
     pub fn returned(&self, reader: &mut Reader<'_>) -> Result<(), NoMemory>
         requires { Nests self.now.levels (F.pre self.now.inside) (F.post self.now.inside) }
         ensures { Runs self.now.levels returned result reader.old reader.new }
@@ -266,7 +266,7 @@ impl<F: Fn(&mut Reader<'_>, u32, Form) -> Result<(), NoMemory>> Grammar<F> {
     }
 
     /// A `return`.
-    #[tactic(auto, unfolding(js_grammar::specs::Statements::return_statement))]
+    #[tactic(auto, unfolding(parser_rules::specs::Statements::return_statement))]
     pub fn return_statement(&self, reader: &mut Reader<'_>) -> Result<(), NoMemory>
         requires { Nests self.now.levels (F.pre self.now.inside) (F.post self.now.inside) }
         ensures { Runs self.now.levels return_statement result reader.old reader.new }
@@ -278,7 +278,7 @@ impl<F: Fn(&mut Reader<'_>, u32, Form) -> Result<(), NoMemory>> Grammar<F> {
     }
 
     /// What a `throw` throws.
-    #[tactic(auto, unfolding(js_grammar::specs::Statements::thrown))]
+    #[tactic(auto, unfolding(parser_rules::specs::Statements::thrown))]
     pub fn thrown(&self, reader: &mut Reader<'_>) -> Result<(), NoMemory>
         requires { Nests self.now.levels (F.pre self.now.inside) (F.post self.now.inside) }
         ensures { Runs self.now.levels thrown result reader.old reader.new }
@@ -292,7 +292,7 @@ impl<F: Fn(&mut Reader<'_>, u32, Form) -> Result<(), NoMemory>> Grammar<F> {
     }
 
     /// A `throw`.
-    #[tactic(auto, unfolding(js_grammar::specs::Statements::throw_statement))]
+    #[tactic(auto, unfolding(parser_rules::specs::Statements::throw_statement))]
     pub fn throw_statement(&self, reader: &mut Reader<'_>) -> Result<(), NoMemory>
         requires { Nests self.now.levels (F.pre self.now.inside) (F.post self.now.inside) }
         ensures { Runs self.now.levels throw_statement result reader.old reader.new }
@@ -304,7 +304,7 @@ impl<F: Fn(&mut Reader<'_>, u32, Form) -> Result<(), NoMemory>> Grammar<F> {
     }
 
     /// The name of what was caught.
-    #[tactic(auto, unfolding(js_grammar::specs::Statements::caught_name))]
+    #[tactic(auto, unfolding(parser_rules::specs::Statements::caught_name))]
     pub fn caught_name(&self, reader: &mut Reader<'_>) -> Result<(), NoMemory>
         requires { Nests self.now.levels (F.pre self.now.inside) (F.post self.now.inside) }
         ensures { Runs self.now.levels caught_name result reader.old reader.new }
@@ -316,7 +316,7 @@ impl<F: Fn(&mut Reader<'_>, u32, Form) -> Result<(), NoMemory>> Grammar<F> {
     }
 
     /// The name of what was caught, if it has one.
-    #[tactic(auto, unfolding(js_grammar::specs::Statements::catch_name))]
+    #[tactic(auto, unfolding(parser_rules::specs::Statements::catch_name))]
     pub fn catch_name(&self, reader: &mut Reader<'_>) -> Result<(), NoMemory>
         requires { Nests self.now.levels (F.pre self.now.inside) (F.post self.now.inside) }
         ensures { Runs self.now.levels catch_name result reader.old reader.new }
@@ -329,7 +329,7 @@ impl<F: Fn(&mut Reader<'_>, u32, Form) -> Result<(), NoMemory>> Grammar<F> {
     }
 
     /// `finally` and its block.
-    #[tactic(auto, unfolding(js_grammar::specs::Statements::finaliser))]
+    #[tactic(auto, unfolding(parser_rules::specs::Statements::finaliser))]
     pub fn finaliser(&self, reader: &mut Reader<'_>) -> Result<(), NoMemory>
         requires { Nests self.now.levels (F.pre self.now.inside) (F.post self.now.inside) }
         ensures { Runs self.now.levels finaliser result reader.old reader.new }
@@ -339,7 +339,7 @@ impl<F: Fn(&mut Reader<'_>, u32, Form) -> Result<(), NoMemory>> Grammar<F> {
     }
 
     /// `finally` and its block, if they are there.
-    #[tactic(auto, unfolding(js_grammar::specs::Statements::finaliser_if_any))]
+    #[tactic(auto, unfolding(parser_rules::specs::Statements::finaliser_if_any))]
     pub fn finaliser_if_any(&self, reader: &mut Reader<'_>) -> Result<(), NoMemory>
         requires { Nests self.now.levels (F.pre self.now.inside) (F.post self.now.inside) }
         ensures { Runs self.now.levels finaliser_if_any result reader.old reader.new }
@@ -352,7 +352,7 @@ impl<F: Fn(&mut Reader<'_>, u32, Form) -> Result<(), NoMemory>> Grammar<F> {
     }
 
     /// `catch`, and what may follow.
-    #[tactic(auto, unfolding(js_grammar::specs::Statements::catch_clause))]
+    #[tactic(auto, unfolding(parser_rules::specs::Statements::catch_clause))]
     pub fn catch_clause(&self, reader: &mut Reader<'_>) -> Result<(), NoMemory>
         requires { Nests self.now.levels (F.pre self.now.inside) (F.post self.now.inside) }
         ensures { Runs self.now.levels catch_clause result reader.old reader.new }
@@ -364,7 +364,7 @@ impl<F: Fn(&mut Reader<'_>, u32, Form) -> Result<(), NoMemory>> Grammar<F> {
     }
 
     /// `finally` without a `catch`.
-    #[tactic(auto, unfolding(js_grammar::specs::Statements::only_finaliser))]
+    #[tactic(auto, unfolding(parser_rules::specs::Statements::only_finaliser))]
     pub fn only_finaliser(&self, reader: &mut Reader<'_>) -> Result<(), NoMemory>
         requires { Nests self.now.levels (F.pre self.now.inside) (F.post self.now.inside) }
         ensures { Runs self.now.levels only_finaliser result reader.old reader.new }
@@ -374,7 +374,7 @@ impl<F: Fn(&mut Reader<'_>, u32, Form) -> Result<(), NoMemory>> Grammar<F> {
     }
 
     /// What follows the block of a `try`.
-    #[tactic(auto, unfolding(js_grammar::specs::Statements::handlers))]
+    #[tactic(auto, unfolding(parser_rules::specs::Statements::handlers))]
     pub fn handlers(&self, reader: &mut Reader<'_>) -> Result<(), NoMemory>
         requires { Nests self.now.levels (F.pre self.now.inside) (F.post self.now.inside) }
         ensures { Runs self.now.levels handlers result reader.old reader.new }
@@ -387,7 +387,7 @@ impl<F: Fn(&mut Reader<'_>, u32, Form) -> Result<(), NoMemory>> Grammar<F> {
     }
 
     /// A `try`.
-    #[tactic(auto, unfolding(js_grammar::specs::Statements::try_statement))]
+    #[tactic(auto, unfolding(parser_rules::specs::Statements::try_statement))]
     pub fn try_statement(&self, reader: &mut Reader<'_>) -> Result<(), NoMemory>
         requires { Nests self.now.levels (F.pre self.now.inside) (F.post self.now.inside) }
         ensures { Runs self.now.levels try_statement result reader.old reader.new }
@@ -400,7 +400,7 @@ impl<F: Fn(&mut Reader<'_>, u32, Form) -> Result<(), NoMemory>> Grammar<F> {
     }
 
     /// An expression as a statement.
-    #[tactic(auto, unfolding(js_grammar::specs::Statements::expression_statement))]
+    #[tactic(auto, unfolding(parser_rules::specs::Statements::expression_statement))]
     pub fn expression_statement(&self, reader: &mut Reader<'_>) -> Result<(), NoMemory>
         requires { Nests self.now.levels (F.pre self.now.inside) (F.post self.now.inside) }
         ensures { Runs self.now.levels expression_statement result reader.old reader.new }
@@ -411,7 +411,7 @@ impl<F: Fn(&mut Reader<'_>, u32, Form) -> Result<(), NoMemory>> Grammar<F> {
     }
 
     /// A statement that jumps, throws or is an expression.
-    #[tactic(auto, unfolding(js_grammar::specs::Statements::simple_statement))]
+    #[tactic(auto, unfolding(parser_rules::specs::Statements::simple_statement))]
     pub fn simple_statement(&self, reader: &mut Reader<'_>) -> Result<(), NoMemory>
         requires { Nests self.now.levels (F.pre self.now.inside) (F.post self.now.inside) }
         ensures { Runs self.now.levels simple_statement result reader.old reader.new }
@@ -433,7 +433,7 @@ impl<F: Fn(&mut Reader<'_>, u32, Form) -> Result<(), NoMemory>> Grammar<F> {
     }
 
     /// A statement.
-    #[tactic(auto, unfolding(js_grammar::specs::Statements::statement))]
+    #[tactic(auto, unfolding(parser_rules::specs::Statements::statement))]
     pub fn statement(&self, reader: &mut Reader<'_>) -> Result<(), NoMemory>
         requires { Nests self.now.levels (F.pre self.now.inside) (F.post self.now.inside) }
         ensures { Runs self.now.levels statement result reader.old reader.new }
@@ -456,7 +456,7 @@ impl<F: Fn(&mut Reader<'_>, u32, Form) -> Result<(), NoMemory>> Grammar<F> {
     }
 
     /// A statement or a declaration.
-    #[tactic(auto, unfolding(js_grammar::specs::Statements::item))]
+    #[tactic(auto, unfolding(parser_rules::specs::Statements::item))]
     pub fn item(&self, reader: &mut Reader<'_>) -> Result<(), NoMemory>
         requires { Nests self.now.levels (F.pre self.now.inside) (F.post self.now.inside) }
         ensures { Runs self.now.levels item result reader.old reader.new }
@@ -484,7 +484,7 @@ impl<F: Fn(&mut Reader<'_>, u32, Form) -> Result<(), NoMemory>> Grammar<F> {
     }
 
     /// A script.
-    #[tactic(auto, unfolding(js_grammar::specs::Statements::script))]
+    #[tactic(auto, unfolding(parser_rules::specs::Statements::script))]
     pub fn script(&self, reader: &mut Reader<'_>) -> Result<(), NoMemory>
         requires { Nests self.now.levels (F.pre self.now.inside) (F.post self.now.inside) }
         ensures { Runs self.now.levels script result reader.old reader.new }

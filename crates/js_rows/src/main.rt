@@ -1,8 +1,8 @@
-//! Tests of `js_lexer`, `js_parser`, `js_early` and `js_literals` by rows: texts with their tokens, trees, copies, or first fault.
+//! Tests of `js_lexer`, `js_parser`, `js_syntax` and `js_literals` by rows: texts with their tokens, trees, copies, or first fault.
 //!
 //! Contracts see nothing here: it is a program that reads the rows of data/, and whose output tells how many hold.
 //! Rely on: each answer was worked out from the rules in docs/SCRIPTS.md, never from the code's own output.
-//! Over `js_lexer`, `js_parser`, `js_early`, `js_literals` and `row_files`; under no crate.
+//! Over `js_lexer`, `js_parser`, `js_syntax`, `js_literals` and `test_tables`; under no crate.
 //! Begin with `data/faults.rows` and `src/reading.rt`, then `data/statements.rows` and `src/outcome.rt`.
 #![tactic(auto)]
 
@@ -16,7 +16,7 @@ mod texts;
 
 use anyhow::Error;
 use outcome::Look;
-use row_files::Tally;
+use test_tables::Tally;
 
 /// The files of texts, and what is asked of each text.
 const FILES: [(&str, Look); 16] = [

@@ -6,8 +6,8 @@
 use anyhow::{Error, bail};
 use js_parser::{SyntaxFault, parse};
 use js_syntax::RefusalKind;
-use row_files::{Row, Table, Tally, read_tables, table_named, text_of};
 use std::alloc::Global;
+use test_tables::{Row, Table, Tally, read_tables, table_named, text_of};
 
 /// Runs each form of a file with each token of its table `next`.
 pub fn run(rt: &HostRuntime, tally: &mut Tally, file: &str) -> Result<(), Error> {

@@ -9,9 +9,8 @@ use crate::parsing::parsing;
 use crate::reading::reading;
 use anyhow::Error;
 use ivm_text::Units;
-use js_early::{EarlyFault, early};
 use js_parser::{SyntaxFault, parse};
-use js_syntax::{Kind, Node, Refusal, Script};
+use js_syntax::{EarlyFault, Kind, Node, Refusal, Script, early};
 use std::alloc::Global;
 
 /// Longer texts are not read.

@@ -2,7 +2,7 @@
 
 use crate::outcome::{Look, outcome};
 use anyhow::Error;
-use row_files::{Row, Table, Tally, read_tables, table_named, text_of};
+use test_tables::{Row, Table, Tally, read_tables, table_named, text_of};
 
 /// Runs each word of a list behind each place of a list, and each word as a key.
 pub fn run(rt: &HostRuntime, tally: &mut Tally, file: &str) -> Result<(), Error> {

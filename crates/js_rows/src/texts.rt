@@ -4,8 +4,8 @@
 
 use crate::outcome::{Look, outcome};
 use anyhow::{Error, bail};
-use row_files::{Row, Tally, bytes_of, read_tables, text_of};
 use std::alloc::Global;
+use test_tables::{Row, Tally, bytes_of, read_tables, text_of};
 
 /// Runs each row of a file.
 pub fn run(rt: &HostRuntime, tally: &mut Tally, file: &str, look: Look) -> Result<(), Error> {

@@ -5,7 +5,7 @@ use Rattle.std.specs.List.{position_or_len}
 use Rattle.std.proofs.lemmas.Bool.Decides.{nat_tests}
 use Rattle.std.proofs.lemmas.List.Quantifiers.{all_pairs_push}
 use Rattle.std.proofs.lemmas.List.Sums.{fails_before_first}
-use Rattle.key_order.specs.Keys.{is_key}
+use Rattle.ivm_text.specs.Keys.{is_key}
 use Rattle.charged_heap.specs.declared.values.Binding.{Binding}
 use Rattle.js_scopes.specs.Bindings.{place_of, new_binding, AreDistinct}
 

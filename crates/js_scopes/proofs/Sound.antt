@@ -3,7 +3,7 @@ use Rattle.std.proofs.Common.{◌≡◌, ℕ, List, [], Bool, true, false, Optio
 use Rattle.std.specs.Prelude.{IfSome, IfOk, codes, if◌then◌else◌}
 use Rattle.std.specs.List.{All}
 use Rattle.std.proofs.lemmas.Map.Entries.{All-lookup}
-use Rattle.key_order.specs.Keys.{is_key, value_at}
+use Rattle.ivm_text.specs.Keys.{is_key, value_at}
 use Rattle.charged_heap.specs.Store.{Store, IsAt, IsPlain, item_at, kind_of, properties}
 use Rattle.charged_heap.specs.Closed.{IsClosed, IsHeld, IsSound, IsSoundValue, IsSoundBinding}
 use Rattle.charged_heap.specs.declared.item.Item.{Item}

@@ -1,7 +1,7 @@
 -- The bindings of a scope: by name, by place, and with one more.
 -- ECMA-262, Declarative Environment Records; docs/SCRIPTS.md, "Names and scopes".
 use Rattle.std.specs.Prelude.{◌≡◌, ℕ, List, [], ◌∷◌, ◌++◌, Bool, false, Option, None, position, is_some, slice_index_or, if◌then◌else◌, AllPairs}
-use Rattle.key_order.specs.Keys.{is_key}
+use Rattle.ivm_text.specs.Keys.{is_key}
 use Rattle.charged_heap.specs.declared.item.Item.{Item}
 use Rattle.charged_heap.specs.declared.item.Item.TheVariants.{Scope}
 use Rattle.charged_heap.specs.declared.values.Binding.{Binding}

@@ -1,7 +1,7 @@
 -- Where a name stands, seen from a scope.
 -- ECMA-262, ResolveBinding and GetIdentifierReference, and Object and Global Environment Records without prototypes; docs/SCRIPTS.md, "Names and scopes".
 use Rattle.std.specs.Prelude.{◌≡◌, ℕ, zero, suc, ◌<◌, List, length, codes, Option, Some, None, if◌then◌else◌}
-use Rattle.key_order.specs.Keys.{is_key, value_at}
+use Rattle.ivm_text.specs.Keys.{is_key, value_at}
 use Rattle.charged_heap.specs.Store.{Store, IsAt, IsScope, item_at, properties}
 use Rattle.charged_heap.specs.declared.values.Value.{Value}
 use Rattle.charged_heap.specs.declared.values.Value.TheVariants as value

@@ -6,8 +6,7 @@ ghost use Rattle.charged_heap.specs.Store.{Store};
 ghost use Rattle.js_scopes.specs.Bindings.{bindings_of, parent_of, place_of, with_new, AreDistinct};
 
 use charged_heap::{Binding, Bindings, Item};
-use item_list::{CloneWhole, Items};
-use ivm_text::{NoMemory, Units};
+use ivm_text::{CloneWhole, Items, NoMemory, Units};
 use std::alloc::Global;
 
 /// The place of the first binding with a name, in a slice.

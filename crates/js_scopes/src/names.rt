@@ -1,6 +1,6 @@
 //! The use of names: reads, their types, and assignments.
 ghost use Rattle.std.specs.Prelude.{◌≡◌, Ok, IfOk, IsOk, IsSome, codes};
-ghost use Rattle.key_order.specs.Keys.{value_at};
+ghost use Rattle.ivm_text.specs.Keys.{value_at};
 ghost use Rattle.charged_heap.specs.Closed.{IsClosed, IsSoundValue};
 ghost use Rattle.charged_heap.specs.Growth.{Grows};
 ghost use Rattle.charged_heap.specs.Store.{IsAt, IsPlain, IsScope, item_at, properties, with_item, with_property};

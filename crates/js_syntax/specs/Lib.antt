@@ -6,3 +6,4 @@ pub mod Faults
 pub mod Early
 pub mod Noted
 pub mod Table
+pub mod Answer

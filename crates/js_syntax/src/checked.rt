@@ -3,7 +3,7 @@ ghost use Rattle.std.specs.Prelude.{◌≡◌};
 ghost use Rattle.js_syntax.specs.Early.{HasNoEarlyFault};
 
 use crate::Script;
-use item_list::Items;
+use ivm_text::Items;
 use std::marker::Model;
 
 /// A script without early faults, seen as the list of its nodes.

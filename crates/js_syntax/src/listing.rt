@@ -4,8 +4,7 @@ ghost use Rattle.js_syntax.specs.Names.{named, is_body, is_block, may_share};
 ghost use Rattle.js_syntax.specs.Noted.{own_name_of, declares_node, declares_at, declared_at, body_kids, block_kids, body_at, block_at, catch_at, differ_at};
 
 use crate::{Kind, Names, Node, Places};
-use item_list::CloneWhole;
-use ivm_text::{NoMemory, Units};
+use ivm_text::{CloneWhole, NoMemory, Units};
 use std::alloc::Global;
 
 /// A name that is declared, the byte at which it stands, and whether a function declares it as its own.

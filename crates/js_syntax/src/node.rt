@@ -1,8 +1,7 @@
 //! One node of a script.
 
 use crate::Kind;
-use item_list::Items;
-use ivm_text::Units;
+use ivm_text::{Items, Units};
 
 /// The names of a node, in order.
 pub type Names = Items<Units>;

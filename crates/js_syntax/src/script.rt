@@ -8,8 +8,7 @@ ghost use Rattle.js_syntax.specs.Early.{HasEarlyFault, HasNoEarlyFault};
 use crate::faults::{Faults, faults_with};
 use crate::shape::is_formed;
 use crate::{Around, Fault, Node};
-use item_list::Items;
-use ivm_text::NoMemory;
+use ivm_text::{Items, NoMemory};
 use std::alloc::Global;
 use std::marker::Model;
 

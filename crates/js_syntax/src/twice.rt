@@ -7,8 +7,7 @@ use crate::fault::earlier_of;
 use crate::listing::Declared;
 use crate::{Fault, FaultKind};
 use indexmap::IndexSet;
-use item_list::CloneWhole;
-use ivm_text::{NoMemory, Units};
+use ivm_text::{CloneWhole, NoMemory, Units};
 use std::alloc::Global;
 
 // The names that were declared so far, as a function's own and otherwise.

@@ -1,3 +1,5 @@
 mod CommentLemmas
 mod EscapeLemmas
 mod NumeralLemmas
+mod CharacterBytes
+mod FaultLemmas

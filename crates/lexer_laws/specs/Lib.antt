@@ -1,3 +1,4 @@
 pub mod Comments
 pub mod Escapes
 pub mod Numerals
+pub mod FirstFault

@@ -1,8 +1,10 @@
-//! What the definitions of tokens come to, in ECMA-262's words.
-ghost use Rattle.std.specs.Prelude.{ℕ};
+//! What the definitions of bytes and tokens come to, in the words of Unicode and ECMA-262.
+ghost use Rattle.std.specs.Prelude.{ℕ, List};
+ghost use Rattle.ivm_text.specs.Text.{fault_place};
 ghost use Rattle.js_lexer.specs.Letters.{Text};
 ghost use Rattle.lexer_laws.specs.Comments.{CommentEnds};
 ghost use Rattle.lexer_laws.specs.Escapes.{IsEscapeThere};
+ghost use Rattle.lexer_laws.specs.FirstFault.{IsFirstFault};
 ghost use Rattle.lexer_laws.specs.Numerals.{IsNumberThere};
 
 /// A block comment goes from behind its `/*` to the first `*/`, and without one it has no end. A line terminator is
@@ -21,4 +23,10 @@ pub fn numbers_stand()
 /// that one stands for.
 pub fn escapes_stand()
     ensures { (c : ℕ) (text : Text) → IsEscapeThere c text }
+{}
+
+/// The place that `from_utf8`, `text_of` and `lex` tell of bytes that are no UTF-8: a text could have all the bytes
+/// before it, and none could have the byte at it too. It is the number of the bytes where they only end too early.
+pub fn fault_is_first()
+    ensures { (bytes : List ℕ) → IsFirstFault bytes (fault_place bytes) }
 {}

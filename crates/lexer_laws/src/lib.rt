@@ -1,11 +1,12 @@
-//! Laws of the tokens of a text, above the definitions that `js_lexer` has of them.
+//! Laws of texts as bytes and of their tokens, above the definitions that `ivm_text` and `js_lexer` have of them.
 //!
-//! Contracts see texts as lists of characters.
-//! Rely on: a block comment ends at the first `*/`; a number and an escape are those that stand there.
-//! Over `js_lexer`; under no crate.
-//! Begin with `specs/Comments.antt`, `specs/Numerals.antt` and `specs/Escapes.antt`.
+//! Contracts see bytes as lists of numbers, and texts as lists of characters.
+//! Rely on: a block comment ends at the first `*/`; a number and an escape are those that stand there; the place of
+//! bytes that are no text is that of the first byte that no text could have there.
+//! Over `js_lexer` and `ivm_text`; under no crate.
+//! Begin with `specs/Comments.antt`, `specs/Numerals.antt`, `specs/Escapes.antt` and `specs/FirstFault.antt`.
 #![tactic(auto)]
 
 mod laws;
 
-pub use laws::{comments_end, escapes_stand, numbers_stand};
+pub use laws::{comments_end, escapes_stand, fault_is_first, numbers_stand};

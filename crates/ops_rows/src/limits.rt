@@ -4,7 +4,7 @@
 
 use crate::operators::{Came, binary_in, unary_in};
 use anyhow::{Error, bail};
-use row_files::{Row, Tally, read_tables, table_named};
+use test_tables::{Row, Tally, read_tables, table_named};
 
 /// An error has these cells beside its message.
 const ERROR: u32 = 4;

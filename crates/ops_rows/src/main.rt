@@ -2,7 +2,7 @@
 //!
 //! Contracts see nothing here: it is a program that reads the rows of data/, and whose output tells how many hold.
 //! Rely on: each value, text and price was worked out by hand from docs/SCRIPTS.md and docs/PRICES.md.
-//! Over `js_ops`, `js_members`, `charged_heap` and `row_files`; under no crate.
+//! Over `js_ops`, `js_members`, `charged_heap` and `test_tables`; under no crate.
 //! Begin with `data/operators.rows` and `src/operators.rt`, then `data/members.rows` and `src/members.rt`.
 #![tactic(auto)]
 
@@ -16,7 +16,7 @@ mod types;
 mod values;
 
 use anyhow::Error;
-use row_files::Tally;
+use test_tables::Tally;
 
 /// A line for each table with the number of its trials, a line for each row that fails, and at last how many held.
 fn main(rt: HostRuntime) -> Result<(), Error> {

@@ -5,8 +5,8 @@ use crate::values::{needs, numbers_of, units_of, value_of};
 use anyhow::{Error, bail};
 use charged_heap::{Fail, Heap, Value};
 use js_members::{pop, push, read, write};
-use row_files::{Row, Table, Tally, read_tables};
 use std::alloc::Global;
+use test_tables::{Row, Table, Tally, read_tables};
 
 /// An error has these cells beside its message.
 const ERROR: u32 = 4;

@@ -6,8 +6,8 @@ use crate::values::{needs, value_of};
 use anyhow::{Error, bail};
 use charged_heap::Heap;
 use js_ops::{binary, unary};
-use row_files::{Row, Tally, read_tables};
 use std::alloc::Global;
+use test_tables::{Row, Tally, read_tables};
 
 /// What came of a trial.
 #[derive(Drop)]

@@ -2,7 +2,7 @@
 
 use crate::operators::binary_of;
 use anyhow::{Error, bail};
-use row_files::{Row, Table, Tally, read_tables, table_named};
+use test_tables::{Row, Table, Tally, read_tables, table_named};
 
 /// What `-` stands for in an answer.
 const WRONG_KIND: &str = "TypeError: wrong kind of operand";

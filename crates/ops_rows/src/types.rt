@@ -6,8 +6,8 @@ use crate::values::{needs, units_of, value_of};
 use anyhow::{Error, bail};
 use charged_heap::Heap;
 use js_ops::{BinaryOperator, UnaryOperator, make_text, same, throw, truthy, type_of};
-use row_files::{Row, Table, Tally, read_tables};
 use std::alloc::Global;
+use test_tables::{Row, Table, Tally, read_tables};
 
 /// Runs each table of a file, all rows of a table over one heap.
 pub fn run(rt: &HostRuntime, tally: &mut Tally, file: &str) -> Result<(), Error> {

@@ -4,8 +4,7 @@ ghost use Rattle.std.specs.Prelude.{OnOk, IsTrue};
 use crate::named::{builtin_named, error_named};
 use anyhow::{Error, bail};
 use charged_heap::{Heap, Item, PromiseState, Props, Value, Values};
-use item_list::Items;
-use ivm_text::{ErrorKind, Handle, TypeOf, Units};
+use ivm_text::{ErrorKind, Handle, Items, TypeOf, Units};
 use std::alloc::Global;
 
 /// What a trial needs, or else it can't be made.

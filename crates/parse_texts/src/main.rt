@@ -2,7 +2,7 @@
 //!
 //! Contracts see nothing here: it is a program that runs `js_parser::parse` for scripts/parse-node and bench/parse.
 //! Rely on: it is safe and returns.
-//! Over `js_parser` and `js_early`; under no crate.
+//! Over `js_parser` and `js_syntax`; under no crate.
 //! Begin with `tell`, then `src/source.rt`.
 #![tactic(auto)]
 
@@ -10,9 +10,8 @@ mod operators;
 mod source;
 
 use anyhow::Error;
-use js_early::{EarlyFault, early};
 use js_parser::{SyntaxFault, parse};
-use js_syntax::{Refusal, Script};
+use js_syntax::{EarlyFault, Refusal, Script, early};
 use source::source_of;
 use std::io::{BufWriter, Read, Write};
 use std::time::Instant;

@@ -2,8 +2,7 @@
 ghost use Rattle.std.specs.Prelude.{◌≡◌, OnOk, IsTrue};
 
 use charged_heap::{Bindings, Heap, Item, Props, Value};
-use item_list::Items;
-use ivm_text::{ErrorKind, Units};
+use ivm_text::{ErrorKind, Items, Units};
 use js_scopes::{add_binding, initialise, make_scope};
 use std::alloc::Global;
 use std::test::Fail;

@@ -2,7 +2,7 @@
 use Rattle.std.proofs.Common.{◌≡◌, ◌∙◌, ℕ, suc, ◌-◌, List, [], ◌∷◌, Option, length, Result, Err, refl, ap, arith}
 use Rattle.js_syntax.specs.declared.kind.Kind.{Kind}
 use Rattle.js_syntax.specs.declared.kind.Kind.TheVariants as kinds
-use Rattle.script_trees.specs.Tree.{Tree, kid}
+use Rattle.js_trees.specs.Tree.{Tree, kid}
 use Rattle.script_meaning.specs.Evaluates.{evaluated}
 use Rattle.script_meaning.specs.Handlers.{finalized_by, handled_by, try_end}
 use Rattle.script_meaning.specs.Outcome.{State, Inside}

@@ -2,7 +2,7 @@
 //!
 //! Contracts see a run as its end, its store and its ticks, and cite `run_end` of `script_meaning`.
 //! Rely on: a run does what `script_run` says, tick by tick and cell by cell; a closed heap stays closed.
-//! Over `script_steps`, `script_meaning` and `script_scopes`; under an isolate's tasks.
+//! Over `script_steps`, `script_meaning` and `js_scopes`; under an isolate's tasks.
 //! Begin with `src/run.rt`, then `src/machine.rt` and `specs/Rest.antt`.
 #![tactic(auto)]
 

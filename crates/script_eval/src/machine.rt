@@ -13,8 +13,7 @@ ghost use Rattle.script_eval.specs.Weight.{IsEnded, IsLast, IsRunning, step_rank
 
 use crate::enter::{call, enter};
 use charged_heap::Heap;
-use item_list::Items;
-use ivm_text::NoMemory;
+use ivm_text::{Items, NoMemory};
 use js_syntax::Scripts;
 use script_meaning::{Abrupt, Ended, nodes_take_ticks};
 use script_steps::{Frame, Inner, Step, resume};

@@ -12,9 +12,9 @@ ghost use Rattle.script_eval.specs.Runs.{IsSoundCompletion, root_of};
 use crate::machine::run;
 use charged_heap::{Fail, Heap, Value};
 use ivm_text::NoMemory;
+use js_scopes::declare_script;
 use js_syntax::Scripts;
 use script_meaning::{Abrupt, Completion, Ended, Role, Site};
-use script_scopes::declare_script;
 use script_steps::{Inner, abrupt_of, declarations_at};
 use std::alloc::Global;
 

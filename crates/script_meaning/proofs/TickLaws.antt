@@ -14,10 +14,10 @@ use Rattle.js_members.specs.Arrays.{pushed}
 use Rattle.js_members.specs.Writes.{write_outcome}
 use Rattle.js_ops.specs.declared.operators.BinaryOperator.{BinaryOperator}
 use Rattle.js_ops.specs.declared.operators.UnaryOperator.{UnaryOperator}
-use Rattle.script_trees.specs.Tree.{Tree, kid}
-use Rattle.script_trees.specs.declared.declaration.Declaration.{Declaration}
-use Rattle.script_scopes.specs.Ends.{Ends}
-use Rattle.script_scopes.specs.Lists.{block_scope, call_scope, name_scope}
+use Rattle.js_trees.specs.Tree.{Tree, kid}
+use Rattle.js_trees.specs.declared.declaration.Declaration.{Declaration}
+use Rattle.js_scopes.specs.Ends.{Ends}
+use Rattle.js_scopes.specs.Lists.{block_scope, call_scope, name_scope}
 use Rattle.script_meaning.specs.Evaluates.{callee_by, evaluated, node_by, statement_by, target_by, too_deep, value_by}
 use Rattle.script_meaning.specs.Expressions.{arguments_rule, array_rule, assign_rule, binary_rule, called_rule, closure_made, comma_rule, computed_for, condition_rule, elements_rule, function_by, function_rule, goes_right, index_rule, item_number, logical_rule, member_for, member_rule, object_rule, properties_rule, step_rule, typeof_by, typeof_rule, unary_rule, update_rule, void_rule}
 use Rattle.script_meaning.specs.Functions.{body_declares, body_rule, builtin_rule, call_rule, enter_rule, is_body, is_function, item_call, no_function, returned, this_of}

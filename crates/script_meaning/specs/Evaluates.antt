@@ -13,9 +13,9 @@ use Rattle.js_ops.specs.declared.operators.Comparison.TheVariants as comparison
 use Rattle.js_ops.specs.declared.operators.BinaryOperator.TheVariants as binary
 use Rattle.js_ops.specs.declared.operators.UnaryOperator.TheVariants as unary
 use Rattle.js_scopes.specs.Names.{name_outcome}
-use Rattle.script_trees.specs.Tree.{Tree, kid}
-use Rattle.script_trees.specs.Declarations.{declarations}
-use Rattle.script_scopes.specs.Scripts.{script_declared}
+use Rattle.js_trees.specs.Tree.{Tree, kid}
+use Rattle.js_trees.specs.Declarations.{declarations}
+use Rattle.js_scopes.specs.Scripts.{script_declared}
 use Rattle.script_meaning.specs.Outcome.{State, Out, Inside, gives, is_empty, on_heap, of_heap, with_value, with_tick}
 use Rattle.script_meaning.specs.Places.{ScriptList, form_at, name_of}
 use Rattle.script_meaning.specs.Functions.{call_rule}

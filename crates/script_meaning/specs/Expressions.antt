@@ -18,8 +18,8 @@ use Rattle.js_members.specs.Reads.{read_outcome}
 use Rattle.js_members.specs.Writes.{write_outcome}
 use Rattle.js_scopes.specs.Names.{name_outcome}
 use Rattle.js_scopes.specs.Scopes.{initialised}
-use Rattle.script_trees.specs.Tree.{Tree, kid, kids_from}
-use Rattle.script_scopes.specs.Lists.{name_scope}
+use Rattle.js_trees.specs.Tree.{Tree, kid, kids_from}
+use Rattle.js_scopes.specs.Lists.{name_scope}
 use Rattle.script_meaning.specs.Outcome.{State, Out, Inside, gives, on_heap, of_heap, with_value, with_place, with_callee}
 use Rattle.script_meaning.specs.Places.{ScriptList, name_of, key_of, wrong_kind, place_read, place_written, place_type}
 use Rattle.script_meaning.specs.Functions.{call_rule}

@@ -13,10 +13,10 @@ use Rattle.js_syntax.specs.declared.kind.Kind.{Kind}
 use Rattle.js_syntax.specs.declared.kind.Kind.TheVariants as kinds
 use Rattle.js_ops.specs.Outcome.{Outcome, thrown}
 use Rattle.js_members.specs.Arrays.{push_outcome, pop_outcome}
-use Rattle.script_trees.specs.Tree.{Tree, kid}
-use Rattle.script_trees.specs.Declarations.{declarations}
-use Rattle.script_trees.specs.declared.declaration.Declaration.{Declaration}
-use Rattle.script_scopes.specs.Lists.{call_scope}
+use Rattle.js_trees.specs.Tree.{Tree, kid}
+use Rattle.js_trees.specs.Declarations.{declarations}
+use Rattle.js_trees.specs.declared.declaration.Declaration.{Declaration}
+use Rattle.js_scopes.specs.Lists.{call_scope}
 use Rattle.script_meaning.specs.Outcome.{State, Out, Inside, gives, on_heap, of_heap, with_tick}
 use Rattle.script_meaning.specs.Places.{ScriptList, form_at}
 use Rattle.script_meaning.specs.declared.completion.Abrupt.TheVariants as abrupt

@@ -5,8 +5,8 @@ use Rattle.charged_heap.specs.declared.values.Value.{Value}
 use Rattle.js_syntax.specs.declared.kind.Kind.{Kind}
 use Rattle.js_syntax.specs.declared.kind.Kind.TheVariants as kinds
 use Rattle.js_syntax.specs.Tree.{Trees}
-use Rattle.script_trees.specs.Tree.{Tree, kid}
-use Rattle.script_scopes.specs.Lists.{catch_scope}
+use Rattle.js_trees.specs.Tree.{Tree, kid}
+use Rattle.js_scopes.specs.Lists.{catch_scope}
 use Rattle.script_meaning.specs.Outcome.{State, Out, Inside, on_heap, with_value}
 use Rattle.script_meaning.specs.Statements.{filled}
 use Rattle.script_meaning.specs.declared.completion.Abrupt.{Abrupt}

@@ -8,11 +8,11 @@ use Rattle.js_syntax.specs.declared.kind.Kind.TheVariants as kinds
 use Rattle.js_syntax.specs.Tree.{Trees}
 use Rattle.js_ops.specs.Values.{truthy}
 use Rattle.js_scopes.specs.Scopes.{scope_copied}
-use Rattle.script_trees.specs.Tree.{Tree, kid}
-use Rattle.script_trees.specs.Declarations.{declarations}
-use Rattle.script_trees.specs.declared.declaration.Declaration.{Declaration}
-use Rattle.script_scopes.specs.Ends.{Ends, and_then}
-use Rattle.script_scopes.specs.Lists.{block_scope}
+use Rattle.js_trees.specs.Tree.{Tree, kid}
+use Rattle.js_trees.specs.Declarations.{declarations}
+use Rattle.js_trees.specs.declared.declaration.Declaration.{Declaration}
+use Rattle.js_scopes.specs.Ends.{Ends, and_then}
+use Rattle.js_scopes.specs.Lists.{block_scope}
 use Rattle.script_meaning.specs.Outcome.{State, Out, Inside, on_heap, with_value, with_end}
 use Rattle.script_meaning.specs.Statements.{value_in, latest, ended_with, or_undefined}
 use Rattle.script_meaning.specs.declared.completion.Abrupt.TheVariants as abrupt

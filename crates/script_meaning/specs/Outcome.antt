@@ -7,8 +7,8 @@ use Rattle.charged_heap.specs.declared.fault.Fail.TheVariants as fail
 use Rattle.charged_heap.specs.declared.values.Value.{Value}
 use Rattle.charged_heap.specs.declared.values.Value.TheVariants as value
 use Rattle.js_syntax.specs.Tree.{Trees}
-use Rattle.script_trees.specs.Tree.{Tree}
-use Rattle.script_scopes.specs.Ends.{Ends}
+use Rattle.js_trees.specs.Tree.{Tree}
+use Rattle.js_scopes.specs.Ends.{Ends}
 use Rattle.script_meaning.specs.declared.completion.Abrupt.{Abrupt}
 use Rattle.script_meaning.specs.declared.completion.Abrupt.TheVariants as abrupt
 use Rattle.script_meaning.specs.declared.completion.Ended.{Ended}

@@ -14,7 +14,7 @@ use Rattle.js_ops.specs.Values.{string_at}
 use Rattle.js_members.specs.Reads.{read_outcome}
 use Rattle.js_members.specs.Writes.{write_outcome}
 use Rattle.js_scopes.specs.Names.{name_outcome, typeof_outcome, assign_outcome}
-use Rattle.script_trees.specs.Tree.{Tree, tree_of, absent}
+use Rattle.js_trees.specs.Tree.{Tree, tree_of, absent}
 use Rattle.script_meaning.specs.declared.site.Key.{Key}
 use Rattle.script_meaning.specs.declared.site.Key.TheVariants as key
 use Rattle.script_meaning.specs.declared.site.Place.{Place}

@@ -8,10 +8,10 @@ use Rattle.js_syntax.specs.declared.kind.Kind.TheVariants as kinds
 use Rattle.js_syntax.specs.Tree.{Trees, nothing, tree}
 use Rattle.js_ops.specs.Values.{truthy}
 use Rattle.js_scopes.specs.Scopes.{initialised}
-use Rattle.script_trees.specs.Tree.{Tree, kid}
-use Rattle.script_trees.specs.Declarations.{declarations}
-use Rattle.script_trees.specs.declared.declaration.Declaration.{Declaration}
-use Rattle.script_scopes.specs.Lists.{block_scope}
+use Rattle.js_trees.specs.Tree.{Tree, kid}
+use Rattle.js_trees.specs.Declarations.{declarations}
+use Rattle.js_trees.specs.declared.declaration.Declaration.{Declaration}
+use Rattle.js_scopes.specs.Lists.{block_scope}
 use Rattle.script_meaning.specs.Outcome.{State, Out, Inside, gives, is_empty, on_heap, with_value}
 use Rattle.script_meaning.specs.declared.completion.Abrupt.TheVariants as abrupt
 use Rattle.script_meaning.specs.declared.completion.Ended.{Ended}

@@ -1,7 +1,7 @@
 -- What the evaluation of nodes takes of the ticks that are left.
 -- This project's own; docs/PRICES.md, "Ticks".
 use Rattle.std.specs.Prelude.{◌≡◌, ◌⊎◌, ◌<◌, Result, Err}
-use Rattle.script_trees.specs.Tree.{Tree}
+use Rattle.js_trees.specs.Tree.{Tree}
 use Rattle.script_meaning.specs.Outcome.{State, Inside}
 use Rattle.script_meaning.specs.declared.completion.Abrupt.TheVariants as abrupt
 use Rattle.script_meaning.specs.declared.completion.StopCause.TheVariants.{Timeout}

@@ -2,7 +2,7 @@
 //!
 //! Contracts of the evaluator cite `Evaluates`, a function of the scripts, the store and the ticks that are left.
 //! Rely on: one rule a form; each rule speaks of trees, values and stores, and of what stands inside it.
-//! Over `script_trees`, `script_scopes` and `js_members`; under the steps and the machine that carry it out.
+//! Over `js_trees`, `js_scopes` and `js_members`; under the steps and the machine that carry it out.
 //! Begin with `specs/Outcome.antt`, `specs/Expressions.antt` and `specs/Statements.antt`; `src/laws.rt` has what holds of all.
 #![tactic(auto)]
 

@@ -5,7 +5,7 @@ use Rattle.std.proofs.lemmas.Option.{get_or_from_slice_get, unwrap_or-slice_get}
 use Rattle.std.specs.Option.{unwrap_or}
 use Rattle.js_syntax.specs.declared.node.Node.{Node}
 use Rattle.js_syntax.specs.Tree.{Trees, nothing, tree}
-use Rattle.script_trees.specs.Tree.{Tree, tree_of, absent, kid, kid_count}
+use Rattle.js_trees.specs.Tree.{Tree, tree_of, absent, kid, kid_count}
 use Rattle.script_meaning.specs.Places.{ScriptList, script_at, form_in, form_at}
 
 -- a script that isn't there has no nodes

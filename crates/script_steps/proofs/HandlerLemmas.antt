@@ -3,8 +3,8 @@ use Rattle.std.proofs.Common.{◌≡◌, ℕ, List, Some, Err, refl}
 use Rattle.charged_heap.specs.Store.{Store}
 use Rattle.charged_heap.specs.declared.fault.Fail.{Fail}
 use Rattle.charged_heap.specs.declared.values.Value.{Value}
-use Rattle.script_trees.specs.Tree.{Tree}
-use Rattle.script_scopes.specs.Lists.{catch_scope}
+use Rattle.js_trees.specs.Tree.{Tree}
+use Rattle.js_scopes.specs.Lists.{catch_scope}
 use Rattle.script_meaning.specs.Handlers.{handler_by}
 use Rattle.script_meaning.specs.Outcome.{Inside, abrupt_of}
 use Rattle.script_meaning.specs.declared.site.Site.{Site}

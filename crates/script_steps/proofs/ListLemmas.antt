@@ -4,8 +4,8 @@ use Rattle.std.proofs.lemmas.Option.{slice_get-get_or, get_or_from_slice_get}
 use Rattle.std.proofs.Common.{◌≡◌, ◌∙◌, ℕ, zero, suc, ◌<◌, ◌≤◌, List, [], ◌∷◌, Option, Some, None, length, refl, sym, ap, arith}
 use Rattle.charged_heap.specs.declared.values.Value.{Value}
 use Rattle.js_syntax.specs.Tree.{Head, Trees, nothing, tree}
-use Rattle.script_trees.specs.Tree.{Tree, kid, kid_count, kids_from}
-use Rattle.script_trees.proofs.PartLemmas.{kids_from-at, kids_from-past}
+use Rattle.js_trees.specs.Tree.{Tree, kid, kid_count, kids_from}
+use Rattle.js_trees.proofs.PartLemmas.{kids_from-at, kids_from-past}
 use Rattle.charged_heap.specs.Store.{Store}
 use Rattle.charged_heap.specs.declared.values.Value.TheVariants as value
 use Rattle.js_syntax.specs.declared.kind.Kind.{Kind}

@@ -10,7 +10,7 @@ use Rattle.js_members.specs.Arrays.{pushed}
 use Rattle.js_members.specs.Reads.{read_outcome}
 use Rattle.js_members.specs.Writes.{write_outcome}
 use Rattle.js_scopes.specs.Scopes.{initialised}
-use Rattle.script_trees.specs.Tree.{Tree, kid, kids_from}
+use Rattle.js_trees.specs.Tree.{Tree, kid, kids_from}
 use Rattle.script_meaning.specs.Outcome.{State, Out, Inside, gives, of_heap, with_value, with_end, with_place, with_callee}
 use Rattle.script_meaning.specs.Ticks.{TakesTicks}
 use Rattle.script_meaning.specs.Places.{ScriptList, form_at, name_at, key_of, place_read, place_written, place_type}

@@ -1,7 +1,7 @@
 -- Loops by the numbers of their parts.
 -- This project's own; docs/SCRIPTS.md, "Loops".
 use Rattle.std.specs.Prelude.{ℕ, Option, Some, None}
-use Rattle.script_trees.specs.Tree.{Tree}
+use Rattle.js_trees.specs.Tree.{Tree}
 use Rattle.script_meaning.specs.Loops.{Loop}
 use Rattle.script_meaning.specs.Places.{ScriptList, form_at}
 use Rattle.script_steps.specs.declared.frame.LoopParts.{LoopParts}

@@ -4,9 +4,9 @@ ghost use Rattle.std.specs.List.{All};
 ghost use Rattle.charged_heap.specs.Closed.{IsClosed, IsSoundValue};
 ghost use Rattle.charged_heap.specs.Growth.{Grows};
 ghost use Rattle.charged_heap.specs.Store.{Store, IsAt, IsScope, item_at};
-ghost use Rattle.script_trees.specs.Tree.{kid};
-ghost use Rattle.script_scopes.specs.Ends.{IsSoundFail, Meets};
-ghost use Rattle.script_scopes.specs.Lists.{call_scope};
+ghost use Rattle.js_trees.specs.Tree.{kid};
+ghost use Rattle.js_scopes.specs.Ends.{IsSoundFail, Meets};
+ghost use Rattle.js_scopes.specs.Lists.{call_scope};
 ghost use Rattle.script_meaning.specs.Functions.{is_body, is_function, this_of, body_declares, body_rule, enter_rule, item_call, call_rule};
 ghost use Rattle.script_meaning.specs.Places.{form_at};
 ghost use Rattle.script_steps.specs.After.{after, Steps, Waits};
@@ -18,11 +18,10 @@ use crate::ends::{abrupt_of, of_heap};
 use crate::forms::{declarations_at, kid_at, kind_at, names_at};
 use crate::{Frame, Step};
 use charged_heap::{Fail, Heap, Item, Value, Values};
-use item_list::Items;
-use ivm_text::NoMemory;
+use ivm_text::{Items, NoMemory};
 use js_syntax::{Kind, Scripts};
+use js_trees::Declarations;
 use script_meaning::{Abrupt, Ended, Site};
-use script_trees::Declarations;
 use std::alloc::Global;
 
 // ---- functions of scripts
@@ -112,7 +111,7 @@ fn scope_of_call(
         |_| Fail::NoMemory,
     )?;
     let parameters = names_at(scripts, site.script, node);
-    script_scopes::call_scope(
+    js_scopes::call_scope(
         alloc,
         heap,
         site.script,

@@ -3,7 +3,7 @@ ghost use Rattle.std.specs.Prelude.{◌≡◌, suc, Ok};
 ghost use Rattle.charged_heap.specs.Closed.{IsClosed, IsSoundValue};
 ghost use Rattle.charged_heap.specs.Growth.{Grows};
 ghost use Rattle.charged_heap.specs.Store.{Store};
-ghost use Rattle.script_trees.specs.Tree.{kids_from};
+ghost use Rattle.js_trees.specs.Tree.{kids_from};
 ghost use Rattle.script_meaning.specs.Expressions.{arguments_rule, called_rule};
 ghost use Rattle.script_meaning.specs.Functions.{call_rule};
 ghost use Rattle.script_meaning.specs.Places.{form_at};
@@ -36,7 +36,7 @@ pub(crate) fn begin_call(scripts: &Scripts, node: u32, site: Site) -> Step
 }
 
 /// Goes on with the arguments from a place on, behind those that are there.
-#[tactic(auto, unfolding(script_meaning::specs::Expressions::arguments_rule), using(script_trees::proofs::PartLemmas::parts_from))]
+#[tactic(auto, unfolding(script_meaning::specs::Expressions::arguments_rule), using(js_trees::proofs::PartLemmas::parts_from))]
 fn arguments_from(
     alloc: Global,
     scripts: &Scripts,
@@ -73,7 +73,7 @@ fn arguments_from(
 }
 
 /// Goes on with the arguments behind the one at a place.
-#[tactic(auto, unfolding(script_meaning::specs::Expressions::arguments_rule), using(script_trees::proofs::PartLemmas::parts_from))]
+#[tactic(auto, unfolding(script_meaning::specs::Expressions::arguments_rule), using(js_trees::proofs::PartLemmas::parts_from))]
 fn arguments_behind(
     alloc: Global,
     scripts: &Scripts,

@@ -2,7 +2,7 @@
 ghost use Rattle.std.specs.Prelude.{◌≡◌, suc, Ok, Option, IfSome};
 ghost use Rattle.charged_heap.specs.Closed.{IsSoundValue};
 ghost use Rattle.charged_heap.specs.Store.{Store};
-ghost use Rattle.script_trees.specs.Tree.{kids_from};
+ghost use Rattle.js_trees.specs.Tree.{kids_from};
 ghost use Rattle.script_meaning.specs.Statements.{list_rule, value_in};
 ghost use Rattle.script_meaning.specs.Places.{form_at};
 ghost use Rattle.script_steps.specs.After.{after, Waits};
@@ -27,7 +27,7 @@ pub(crate) fn value_in(end: Ended) -> Option<Value>
 }
 
 /// The statements of a list behind a place.
-#[tactic(auto, unfolding(script_meaning::specs::Statements::list_rule), using(script_trees::proofs::PartLemmas::parts_from))]
+#[tactic(auto, unfolding(script_meaning::specs::Statements::list_rule), using(js_trees::proofs::PartLemmas::parts_from))]
 fn list_behind(scripts: &Scripts, node: u32, place: u32, last: Option<Value>, site: Site) -> Step
     ensures step { Waits scripts.now result (λ at s. list_rule at (kids_from (suc place) ((form_at scripts.now site.script node).kids)) site last s) }
     ensures sound { (s : Store) → IsSoundSite s site → IfSome last (IsSoundValue s) → IsSoundStep s result }

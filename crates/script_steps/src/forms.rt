@@ -1,15 +1,14 @@
 //! What stands at a node of a script by numbers; nothing where there is no such node.
 ghost use Rattle.std.specs.Prelude.{◌≡◌, ◌<◌, [], length, IfOk, MatchOption};
 ghost use Rattle.std.specs.Option.{option_copied};
-ghost use Rattle.script_trees.specs.Tree.{tree_of, absent, kid, kid_count};
-ghost use Rattle.script_trees.specs.Declarations.{declarations};
+ghost use Rattle.js_trees.specs.Tree.{tree_of, absent, kid, kid_count};
+ghost use Rattle.js_trees.specs.Declarations.{declarations};
 ghost use Rattle.script_meaning.specs.Places.{form_at, script_at};
 ghost use Rattle.script_steps.specs.Sound.{IsThere};
 
-use item_list::Items;
-use ivm_text::{NoMemory, Units};
+use ivm_text::{Items, NoMemory, Units};
 use js_syntax::{Kind, Script, Scripts};
-use script_trees::Declarations;
+use js_trees::Declarations;
 use std::alloc::Global;
 
 /// The nodes of a script; none where there is no such script.
@@ -47,7 +46,7 @@ pub(crate) fn kind_at(scripts: &Scripts, script: u32, node: u32) -> Kind
     ensures itself { IsThere result → ((form_at scripts.now script node).head).number_of_node ≡ node }
 {
     match script_with(scripts, script, node) {
-        Some(found) => script_trees::kind(found, node),
+        Some(found) => js_trees::kind(found, node),
         None => Kind::Absent,
     }
 }
@@ -59,8 +58,8 @@ pub(crate) fn kid_at(scripts: &Scripts, script: u32, node: u32, place: u32) -> u
 {
     match script_with(scripts, script, node) {
         Some(found) => {
-            if place < script_trees::kid_count(found, node) {
-                script_trees::kid(found, node, place)
+            if place < js_trees::kid_count(found, node) {
+                js_trees::kid(found, node, place)
             } else {
                 found.len()
             }
@@ -74,7 +73,7 @@ pub(crate) fn kid_count_at(scripts: &Scripts, script: u32, node: u32) -> u32
     ensures { result ≡ kid_count ((form_at scripts.now script node).kids) }
 {
     match script_with(scripts, script, node) {
-        Some(found) => script_trees::kid_count(found, node),
+        Some(found) => js_trees::kid_count(found, node),
         None => 0,
     }
 }
@@ -84,7 +83,7 @@ pub(crate) fn name_at(scripts: &Scripts, script: u32, node: u32) -> Option<&Unit
     ensures { option_copied result ≡ ((form_at scripts.now script node).head).name }
 {
     match script_with(scripts, script, node) {
-        Some(found) => script_trees::name(found, node),
+        Some(found) => js_trees::name(found, node),
         None => None,
     }
 }
@@ -94,7 +93,7 @@ pub(crate) fn names_at(scripts: &Scripts, script: u32, node: u32) -> &[Units]
     ensures { result.now ≡ ((form_at scripts.now script node).head).names }
 {
     match script_with(scripts, script, node) {
-        Some(found) => script_trees::names(found, node).as_slice(),
+        Some(found) => js_trees::names(found, node).as_slice(),
         None => &[],
     }
 }
@@ -104,7 +103,7 @@ pub(crate) fn number_at(scripts: &Scripts, script: u32, node: u32) -> i64
     ensures { result ≡ ((form_at scripts.now script node).head).value }
 {
     match script_with(scripts, script, node) {
-        Some(found) => script_trees::number(found, node),
+        Some(found) => js_trees::number(found, node),
         None => 0,
     }
 }
@@ -119,7 +118,7 @@ pub fn declarations_at(
     ensures { IfOk result (λ list. list ≡ declarations ((form_at scripts.now script node).kids)) }
 {
     match script_with(scripts, script, node) {
-        Some(found) => script_trees::declarations(alloc, found, node),
+        Some(found) => js_trees::declarations(alloc, found, node),
         None => Ok(Items::new(alloc)),
     }
 }

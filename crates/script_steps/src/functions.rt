@@ -72,7 +72,7 @@ fn make_named(
     ensures closed { IsClosed heap.old → IsClosed heap.new }
     ensures sound { IsSoundResult heap.new result }
 {
-    let scope = script_scopes::name_scope(alloc, heap, site.scope, name)?;
+    let scope = js_scopes::name_scope(alloc, heap, site.scope, name)?;
     let inside = Site { scope, ..site };
     let function = make_closure(heap, node, inside, Value::Undefined)?;
     js_scopes::initialise(heap, scope, name, function);

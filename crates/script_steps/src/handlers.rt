@@ -3,7 +3,7 @@ ghost use Rattle.std.specs.Prelude.{◌≡◌, Ok, Result};
 ghost use Rattle.charged_heap.specs.Closed.{IsClosed, IsSoundValue};
 ghost use Rattle.charged_heap.specs.Growth.{Grows};
 ghost use Rattle.charged_heap.specs.Store.{Store};
-ghost use Rattle.script_trees.specs.Tree.{kid};
+ghost use Rattle.js_trees.specs.Tree.{kid};
 ghost use Rattle.script_meaning.specs.Handlers.{handler_by, throw_rule, try_end, try_rule};
 ghost use Rattle.script_meaning.specs.Places.{form_at};
 ghost use Rattle.script_steps.specs.After.{after, Steps, Waits};
@@ -78,7 +78,7 @@ fn handle(
     let Some(name) = name_at(scripts, site.script, node) else {
         return Step::statement(Frame::Catch { node, site }, handler, site);
     };
-    match script_scopes::catch_scope(alloc, heap, site.scope, name, thrown) {
+    match js_scopes::catch_scope(alloc, heap, site.scope, name, thrown) {
         Ok(scope) => {
             let inside = Site { scope, ..site };
             Step::statement(Frame::Catch { node, site }, handler, inside)

@@ -2,7 +2,7 @@
 //!
 //! Contracts see a step as what it comes to: an end, a `Frame` that waits for a node inside it, or a built-in's call.
 //! Rely on: `begin` and `resume` come to what the form's rule says, whatever the nodes inside it do.
-//! Over `script_meaning`, `script_scopes` and `js_members`; under the machine that carries scripts out.
+//! Over `script_meaning`, `js_scopes` and `js_members`; under the machine that carries scripts out.
 //! Begin with `specs/After.antt`, then `src/frame.rt`, `src/beginning.rt` and `src/resuming.rt`.
 #![tactic(auto)]
 

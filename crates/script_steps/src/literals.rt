@@ -6,8 +6,8 @@ ghost use Rattle.charged_heap.specs.Store.{Store, IsAt, IsArray, IsPlain};
 ghost use Rattle.js_ops.specs.Outcome.{Gives, IsSoundResult};
 ghost use Rattle.js_members.specs.Arrays.{pushed};
 ghost use Rattle.js_members.specs.Writes.{write_outcome};
-ghost use Rattle.script_trees.specs.Tree.{kid_count, kids_from};
-ghost use Rattle.script_scopes.specs.Ends.{IsSoundFail, Meets, item_made};
+ghost use Rattle.js_trees.specs.Tree.{kid_count, kids_from};
+ghost use Rattle.js_scopes.specs.Ends.{IsSoundFail, Meets, item_made};
 ghost use Rattle.script_meaning.specs.Expressions.{array_rule, elements_rule, object_rule, properties_rule};
 ghost use Rattle.script_meaning.specs.Places.{form_at};
 ghost use Rattle.script_steps.specs.After.{after, Steps, Waits};
@@ -25,7 +25,7 @@ use std::alloc::Global;
 // ---- arrays
 
 /// Goes on with an array from the element at a place on.
-#[tactic(auto, unfolding(crate::specs::After::after, script_meaning::specs::Expressions::elements_rule), using(script_trees::proofs::PartLemmas::parts_from, crate::proofs::CallLemmas::array_held))]
+#[tactic(auto, unfolding(crate::specs::After::after, script_meaning::specs::Expressions::elements_rule), using(js_trees::proofs::PartLemmas::parts_from, crate::proofs::CallLemmas::array_held))]
 fn elements_from(scripts: &Scripts, node: u32, place: u32, array: u32, site: Site) -> Step
     ensures step { Waits scripts.now result (λ at s. elements_rule at array (kids_from place ((form_at scripts.now site.script node).kids)) site s) }
     ensures sound { (s : Store) → IsAt IsArray s array → IsSoundSite s site → IsSoundStep s result }
@@ -44,7 +44,7 @@ fn elements_from(scripts: &Scripts, node: u32, place: u32, array: u32, site: Sit
 }
 
 /// Goes on with an array behind the element at a place.
-#[tactic(auto, using(script_trees::proofs::PartLemmas::parts_from, crate::proofs::CallLemmas::array_held), unfolding(script_meaning::specs::Expressions::elements_rule))]
+#[tactic(auto, using(js_trees::proofs::PartLemmas::parts_from, crate::proofs::CallLemmas::array_held), unfolding(script_meaning::specs::Expressions::elements_rule))]
 fn elements_behind(scripts: &Scripts, node: u32, place: u32, array: u32, site: Site) -> Step
     ensures step { Waits scripts.now result (λ at s. elements_rule at array (kids_from (suc place) ((form_at scripts.now site.script node).kids)) site s) }
     ensures sound { (s : Store) → IsAt IsArray s array → IsSoundSite s site → IsSoundStep s result }

@@ -4,8 +4,8 @@ ghost use Rattle.charged_heap.specs.Closed.{IsClosed, IsSoundValue};
 ghost use Rattle.charged_heap.specs.Growth.{Grows};
 ghost use Rattle.charged_heap.specs.Store.{IsAt, IsScope, Store};
 ghost use Rattle.js_scopes.specs.Scopes.{scope_copied};
-ghost use Rattle.script_trees.specs.Tree.{kid};
-ghost use Rattle.script_scopes.specs.Ends.{IsSoundFail, Meets};
+ghost use Rattle.js_trees.specs.Tree.{kid};
+ghost use Rattle.js_scopes.specs.Ends.{IsSoundFail, Meets};
 ghost use Rattle.script_meaning.specs.Loops.{first_round, for_loop, for_rule, headed, is_fresh, loop_rule, part, round_site, to_next, while_rule};
 ghost use Rattle.script_meaning.specs.Places.{form_at};
 ghost use Rattle.script_meaning.specs.Statements.{ended_with, or_undefined};
@@ -348,7 +348,7 @@ pub(crate) fn begin_for(
     if declared.len() == 0 {
         return begin_head(alloc, scripts, heap, node, parts, site);
     }
-    match script_scopes::block_scope(alloc, heap, site.script, site.global, site.scope, &declared) {
+    match js_scopes::block_scope(alloc, heap, site.script, site.global, site.scope, &declared) {
         Ok(scope) => begin_head(alloc, scripts, heap, node, parts, Site { scope, ..site }),
         Err(fail) => Step::Ended(Err(abrupt_of(fail))),
     }

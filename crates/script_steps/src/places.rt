@@ -12,8 +12,7 @@ ghost use Rattle.script_steps.specs.Sound.{IsSoundKey, IsSoundPlace, IsSoundSite
 
 use crate::forms;
 use charged_heap::{Fail, Heap, Item, Value};
-use item_list::CloneWhole;
-use ivm_text::{ErrorKind, NoMemory, Units};
+use ivm_text::{CloneWhole, ErrorKind, NoMemory, Units};
 use js_members::{read, write};
 use js_ops::{UnaryOperator, throw, unary};
 use js_scopes::{assign_name, read_name, type_of_name};

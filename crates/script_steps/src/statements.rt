@@ -4,7 +4,7 @@ ghost use Rattle.charged_heap.specs.Closed.{IsClosed, IsSoundValue};
 ghost use Rattle.charged_heap.specs.Growth.{Grows};
 ghost use Rattle.charged_heap.specs.Store.{Store};
 ghost use Rattle.js_scopes.specs.Scopes.{initialised};
-ghost use Rattle.script_trees.specs.Tree.{kid, kid_count, kids_from};
+ghost use Rattle.js_trees.specs.Tree.{kid, kid_count, kids_from};
 ghost use Rattle.script_meaning.specs.Outcome.{Inside};
 ghost use Rattle.script_meaning.specs.Statements.{list_rule, block_rule, declare_rule, if_rule, return_rule, latest, ended_with, or_undefined};
 ghost use Rattle.script_meaning.specs.Places.{form_at};
@@ -53,7 +53,7 @@ pub(crate) fn or_undefined(value: Option<Value>) -> Option<Value>
 // ---- lists
 
 /// The statements of a list from a place on, where the last value so far is this one.
-#[tactic(auto, unfolding(script_meaning::specs::Statements::list_rule), using(script_trees::proofs::PartLemmas::parts_from, crate::proofs::ListLemmas::lists))]
+#[tactic(auto, unfolding(script_meaning::specs::Statements::list_rule), using(js_trees::proofs::PartLemmas::parts_from, crate::proofs::ListLemmas::lists))]
 pub(crate) fn list_from(
     scripts: &Scripts,
     node: u32,
@@ -106,7 +106,7 @@ pub(crate) fn begin_block(
         global,
         receiver,
     } = site;
-    match script_scopes::block_scope(alloc, heap, script, global, scope, &declared) {
+    match js_scopes::block_scope(alloc, heap, script, global, scope, &declared) {
         Ok(scope) => {
             let inside = Site {
                 script,

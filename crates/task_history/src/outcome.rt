@@ -1,8 +1,7 @@
 //! What comes of a task, and what an isolate sends to its host.
 
 use crate::Act;
-use item_list::{CloneWhole, Items};
-use ivm_text::{Copy, Handle, Passed, Refusal, Uncopyable};
+use ivm_text::{CloneWhole, Copy, Handle, Items, Passed, Refusal, Uncopyable};
 use std::alloc::{AllocError, Global};
 
 /// Copies, in order.

@@ -2,7 +2,7 @@
 ghost use Rattle.std.specs.Prelude.{◌≡◌, []};
 
 use crate::{Out, Outcome, Outs, Own, Task};
-use item_list::{CloneWhole, Items};
+use ivm_text::{CloneWhole, Items};
 use std::alloc::{AllocError, Global};
 
 /// One entry of a journal: a task, what came of it, and all that it sent out. An entry without a task is

@@ -1,8 +1,7 @@
 //! A task, and what is asked of an isolate by it.
 
 use crate::Outcome;
-use item_list::{CloneWhole, Items};
-use ivm_text::{Bytes, Passed, Units, Want};
+use ivm_text::{Bytes, CloneWhole, Items, Passed, Units, Want};
 use std::alloc::{AllocError, Global};
 
 /// Values that pass, in order.

@@ -1,6 +1,6 @@
 use Rattle.std.proofs.Common.{◌∙◌, ap}
 use Rattle.charged_heap.specs.Store.{properties}
-use Rattle.key_order.specs.Keys.{value_at}
+use Rattle.ivm_text.specs.Keys.{value_at}
 use Rattle.isolate_core.proofs.Growing.{found_sound}
 use Rattle.isolate_core.proofs.rows.own_property.Goals as goal
 

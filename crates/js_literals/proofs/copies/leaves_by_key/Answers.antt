@@ -2,8 +2,8 @@ use Rattle.std.proofs.Common.{◌≡◌, ℕ, ◌+◌, ◌++◌, ◌∷◌, [], 
 use Rattle.std.specs.Prelude.{slice_get}
 use Rattle.std.specs.Map.{keys_of, values_of}
 use Rattle.std.specs.List.{IsDistinct}
-use Rattle.key_order.specs.Keys.{is_key}
-use Rattle.key_order.specs.KeyOrder.{key_order}
+use Rattle.ivm_text.specs.Keys.{is_key}
+use Rattle.ivm_text.specs.KeyOrder.{key_order}
 use Rattle.js_literals.specs.Copies.{pairs_from}
 use Rattle.js_literals.specs.View.{tree_at, pairs_at}
 use Rattle.js_literals.proofs.PairLemmas.{ordered_from, ordered_past, keys_differ}

@@ -1,6 +1,6 @@
 use Rattle.std.proofs.Common.{◌≡◌, ◌++◌, length, drop}
 use Rattle.std.specs.Map.{keys_of, values_of}
-use Rattle.key_order.specs.KeyOrder.{key_order}
+use Rattle.ivm_text.specs.KeyOrder.{key_order}
 use Rattle.js_literals.specs.Copies.{pairs_from}
 use Rattle.js_literals.specs.View.{pairs_at}
 use Rattle.js_literals.proofs.Walks.{Walk}

@@ -1,7 +1,7 @@
 use Rattle.std.proofs.Common.{ℕ, ◌<◌, List, [], length, sym, ap, ◌∙◌, subst, arith}
 use Rattle.std.specs.Prelude.{All}
 use Rattle.std.specs.Map.{values_of}
-use Rattle.key_order.specs.KeyOrder.{key_order}
+use Rattle.ivm_text.specs.KeyOrder.{key_order}
 use Rattle.js_literals.specs.Copies.{Tree, is_array, is_object, leaves_from, pairs_from}
 use Rattle.js_literals.specs.View.{tree_at, trees_at, pairs_at, Mentions}
 use Rattle.js_literals.proofs.Nodes.{stands}

@@ -1,6 +1,6 @@
 use Rattle.std.proofs.Common.{◌≡◌, [], drop}
 use Rattle.std.specs.Prelude.{zip}
-use Rattle.key_order.specs.Keys.{HasDistinctKeys}
+use Rattle.ivm_text.specs.Keys.{HasDistinctKeys}
 use Rattle.js_literals.specs.Copies.{given}
 use Rattle.js_literals.proofs.objects.entries_of.Given as goal
 

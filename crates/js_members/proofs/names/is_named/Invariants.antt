@@ -1,5 +1,5 @@
 use Rattle.std.proofs.Common.{◌≡◌, length, drop}
-use Rattle.key_order.specs.Keys.{is_key}
+use Rattle.ivm_text.specs.Keys.{is_key}
 use Rattle.js_members.proofs.names.is_named.Given as goal
 
 abbrev pub invariant-loop-place : goal.invariant-loop-place

@@ -1,5 +1,5 @@
 use Rattle.std.proofs.Common.{◌≡◌, drop}
-use Rattle.js_grammar.specs.Classes.{class_in}
+use Rattle.parser_rules.specs.Classes.{class_in}
 use Rattle.js_parser.specs.Tables.{entries}
 use Rattle.js_parser.proofs.classes.class_in.Given as goal
 

@@ -1,9 +1,9 @@
 use Rattle.std.proofs.Common.{if◌then◌else◌, refl, ap, ◌∙◌}
-use Rattle.js_grammar.specs.declared.class.Class.{Class}
-use Rattle.js_grammar.specs.declared.form.Why.TheVariants.{TooDeep, Unexpected}
-use Rattle.js_grammar.specs.Classes.{is_one_of}
-use Rattle.js_grammar.specs.Grammar as grammar
-use Rattle.js_grammar.specs.Grammar.{within, limit}
+use Rattle.parser_rules.specs.declared.class.Class.{Class}
+use Rattle.parser_rules.specs.declared.form.Why.TheVariants.{TooDeep, Unexpected}
+use Rattle.parser_rules.specs.Classes.{is_one_of}
+use Rattle.parser_rules.specs.Grammar as grammar
+use Rattle.parser_rules.specs.Grammar.{within, limit}
 use Rattle.js_parser.specs.State.{state_of}
 use Rattle.js_parser.proofs.Steps as steps
 use Rattle.js_parser.proofs.limit.stop_beyond.Goals as goal

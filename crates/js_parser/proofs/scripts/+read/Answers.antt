@@ -1,8 +1,8 @@
 use Rattle.std.proofs.Common.{◌≡◌, sym, ap, ◌∙◌, arith}
-use Rattle.js_grammar.specs.declared.form.Form.{Form}
-use Rattle.js_grammar.specs.declared.form.Form.TheVariants as forms
-use Rattle.js_grammar.specs.Grammar.{within}
-use Rattle.js_grammar.proofs.Takes.{within_still, within_none, within_one}
+use Rattle.parser_rules.specs.declared.form.Form.{Form}
+use Rattle.parser_rules.specs.declared.form.Form.TheVariants as forms
+use Rattle.parser_rules.specs.Grammar.{within}
+use Rattle.parser_rules.proofs.Takes.{within_still, within_none, within_one}
 use Rattle.js_parser.specs.State.{state_of}
 use Rattle.js_parser.proofs.Steps as steps
 use Rattle.js_parser.proofs.Works.{ok_map}

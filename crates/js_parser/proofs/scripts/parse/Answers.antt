@@ -1,7 +1,7 @@
-use Rattle.js_grammar.specs.Statements.{script}
-use Rattle.js_derivation.specs.Derives.{Derives}
-use Rattle.js_derivation.proofs.Grammar.{scripts_same}
-use Rattle.js_derivation.proofs.FirstBad.{scripts_first}
+use Rattle.parser_rules.specs.Statements.{script}
+use Rattle.js_grammar.specs.Derives.{Derives}
+use Rattle.js_grammar.proofs.Grammar.{scripts_same}
+use Rattle.js_grammar.proofs.FirstBad.{scripts_first}
 use Rattle.js_parser.proofs.Refused.{ok_is, err_is}
 use Rattle.js_parser.proofs.scripts.parse.Goals as goal
 

@@ -1,7 +1,7 @@
-use Rattle.js_grammar.specs.Literals.{arguments_text}
-use Rattle.js_derivation.specs.Derives.{DerivesArguments}
-use Rattle.js_derivation.proofs.Grammar.{arguments_same}
-use Rattle.js_derivation.proofs.FirstBad.{arguments_first}
+use Rattle.parser_rules.specs.Literals.{arguments_text}
+use Rattle.js_grammar.specs.Derives.{DerivesArguments}
+use Rattle.js_grammar.proofs.Grammar.{arguments_same}
+use Rattle.js_grammar.proofs.FirstBad.{arguments_first}
 use Rattle.js_parser.proofs.Refused.{nodes_are, err_is}
 use Rattle.js_parser.proofs.scripts.parse_arguments.Goals as goal
 

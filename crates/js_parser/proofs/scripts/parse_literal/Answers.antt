@@ -1,7 +1,7 @@
-use Rattle.js_grammar.specs.Literals.{literal_text}
-use Rattle.js_derivation.specs.Derives.{DerivesLiteral}
-use Rattle.js_derivation.proofs.Grammar.{literals_same}
-use Rattle.js_derivation.proofs.FirstBad.{literals_first}
+use Rattle.parser_rules.specs.Literals.{literal_text}
+use Rattle.js_grammar.specs.Derives.{DerivesLiteral}
+use Rattle.js_grammar.proofs.Grammar.{literals_same}
+use Rattle.js_grammar.proofs.FirstBad.{literals_first}
 use Rattle.js_parser.proofs.Refused.{nodes_are, err_is}
 use Rattle.js_parser.proofs.scripts.parse_literal.Goals as goal
 

@@ -1,5 +1,5 @@
 use Rattle.std.proofs.Common.{◌<◌, arith}
-use Rattle.script_trees.specs.Tree.{kid_count}
+use Rattle.js_trees.specs.Tree.{kid_count}
 use Rattle.script_meaning.specs.Places.{form_at}
 use Rattle.script_steps.specs.After.{with_left}
 use Rattle.script_steps.proofs.CallLemmas.{argument_begins}

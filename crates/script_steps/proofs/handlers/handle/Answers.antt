@@ -1,7 +1,7 @@
 use Rattle.std.proofs.Common.{rules, ◌≡◌, ◌≢◌, ◌∙◌, Err, ap, sym}
 use Rattle.charged_heap.specs.declared.fault.Fail.TheVariants.{NoMemory, Over, Throw}
-use Rattle.script_trees.specs.Tree.{kid}
-use Rattle.script_scopes.specs.Lists.{catch_scope}
+use Rattle.js_trees.specs.Tree.{kid}
+use Rattle.js_scopes.specs.Lists.{catch_scope}
 use Rattle.script_meaning.specs.Handlers.{try_end}
 use Rattle.script_meaning.specs.Places.{form_at}
 use Rattle.script_steps.specs.After.{after, with_left}

@@ -2,8 +2,8 @@ use Rattle.std.proofs.Common.{◌≡◌, ◌∙◌, sym, subst, Some, ap}
 use Rattle.std.specs.Prelude.{position}
 use Rattle.std.specs.List.{IsDistinct}
 use Rattle.std.specs.Map.{keys_of}
-use Rattle.key_order.specs.Keys.{is_key, HasDistinctKeys}
-use Rattle.key_order.proofs.KeyLemmas.{with_value_present, keys-set_value_at}
+use Rattle.ivm_text.specs.Keys.{is_key, HasDistinctKeys}
+use Rattle.ivm_text.proofs.KeyLemmas.{with_value_present, keys-set_value_at}
 use Rattle.charged_heap.proofs.props.Props.put.Goals as goal
 
 pub returns-in-Some-clause-ok : goal.returns-in-Some-clause-ok

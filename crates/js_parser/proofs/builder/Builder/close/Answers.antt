@@ -1,5 +1,5 @@
 use Rattle.std.proofs.Common.{[], sym, ap, ◌∙◌}
-use Rattle.js_grammar.specs.Work.{added}
+use Rattle.parser_rules.specs.Work.{added}
 use Rattle.js_parser.specs.declared.draft.Draft.{Draft}
 use Rattle.js_parser.specs.View.{grown, frame_of, work_of}
 use Rattle.js_parser.specs.Changes.{work_in}

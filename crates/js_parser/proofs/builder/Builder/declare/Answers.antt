@@ -1,5 +1,5 @@
 use Rattle.std.proofs.Common.{ℕ, List, ap, ◌∙◌}
-use Rattle.js_grammar.specs.Work.{with_one_name}
+use Rattle.parser_rules.specs.Work.{with_one_name}
 use Rattle.js_parser.specs.Changes.{work_in}
 use Rattle.js_parser.proofs.Works as works
 use Rattle.js_parser.proofs.builder.Builder.declare.Goals as goal

@@ -1,6 +1,6 @@
 use Rattle.std.proofs.Common.{List, sym, ap, ◌∙◌}
 use Rattle.js_lexer.specs.declared.token.Token.{Token}
-use Rattle.js_grammar.specs.Work.{named_by}
+use Rattle.parser_rules.specs.Work.{named_by}
 use Rattle.js_parser.specs.Changes.{work_in}
 use Rattle.js_parser.proofs.Works as works
 use Rattle.js_parser.proofs.builder.Builder.name_by.Goals as goal

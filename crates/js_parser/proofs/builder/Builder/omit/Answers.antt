@@ -1,5 +1,5 @@
 use Rattle.std.proofs.Common.{[], ap, ◌∙◌}
-use Rattle.js_grammar.specs.Work.{Frame, added}
+use Rattle.parser_rules.specs.Work.{Frame, added}
 use Rattle.js_syntax.specs.declared.kind.Kind.TheVariants as kinds
 use Rattle.js_parser.specs.View.{grown}
 use Rattle.js_parser.specs.Changes.{work_in}

@@ -1,5 +1,5 @@
 use Rattle.std.proofs.Common.{List, [], ◌∷◌, sym, ap, ◌∙◌}
-use Rattle.js_grammar.specs.Work.{Work, Part, pushed}
+use Rattle.parser_rules.specs.Work.{Work, Part, pushed}
 use Rattle.js_parser.specs.View.{grown, part_at, parts_then, frame_of, work_of}
 use Rattle.js_parser.specs.Changes.{work_in}
 use Rattle.js_parser.proofs.Works as works

@@ -1,6 +1,6 @@
 use Rattle.std.proofs.Common.{List, [], refl, sym, ap, ◌∙◌}
 use Rattle.js_syntax.specs.declared.node.Node.{Node}
-use Rattle.js_grammar.specs.Work.{pushed}
+use Rattle.parser_rules.specs.Work.{pushed}
 use Rattle.js_parser.specs.View.{grown, part_at}
 use Rattle.js_parser.specs.Changes.{work_in}
 use Rattle.js_parser.proofs.Works as works

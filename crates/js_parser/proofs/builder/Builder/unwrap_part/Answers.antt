@@ -1,5 +1,5 @@
 use Rattle.std.proofs.Common.{◌≡◌, ℕ, [], sym, ap, ◌∙◌}
-use Rattle.js_grammar.specs.Work.{Work, pushed}
+use Rattle.parser_rules.specs.Work.{Work, pushed}
 use Rattle.js_parser.specs.declared.draft.Draft.{Draft}
 use Rattle.js_parser.specs.View.{grown, part_at, frame_of, frames_then, work_of}
 use Rattle.js_parser.specs.Changes.{work_in}

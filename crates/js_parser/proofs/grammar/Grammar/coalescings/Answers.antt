@@ -1,8 +1,8 @@
 use Rattle.std.proofs.Common.{[], ◌∷◌, refl, sym}
-use Rattle.js_grammar.specs.declared.class.Class.TheVariants as classes
-use Rattle.js_grammar.specs.Rules.{sees}
-use Rattle.js_grammar.specs.Expressions.{coalescing, coalescings}
-use Rattle.js_grammar.proofs.Takes.{loop_go, loop_less, loop_end}
+use Rattle.parser_rules.specs.declared.class.Class.TheVariants as classes
+use Rattle.parser_rules.specs.Rules.{sees}
+use Rattle.parser_rules.specs.Expressions.{coalescing, coalescings}
+use Rattle.parser_rules.proofs.Takes.{loop_go, loop_less, loop_end}
 use Rattle.js_parser.specs.State.{state_of}
 use Rattle.js_parser.proofs.grammar.Grammar.coalescings.Goals as goal
 

@@ -1,7 +1,7 @@
 use Rattle.std.proofs.Common.{refl, sym}
-use Rattle.js_grammar.specs.Rules.{sees}
-use Rattle.js_grammar.specs.Expressions.{equality, equality_operators}
-use Rattle.js_grammar.proofs.Takes.{loop_go, loop_less, loop_end}
+use Rattle.parser_rules.specs.Rules.{sees}
+use Rattle.parser_rules.specs.Expressions.{equality, equality_operators}
+use Rattle.parser_rules.proofs.Takes.{loop_go, loop_less, loop_end}
 use Rattle.js_parser.specs.State.{state_of}
 use Rattle.js_parser.proofs.grammar.Grammar.equalities_on.Goals as goal
 

@@ -1,8 +1,8 @@
 use Rattle.std.proofs.Common.{◌≡◌, [], ◌∷◌}
-use Rattle.js_grammar.specs.declared.class.Class.TheVariants as classes
-use Rattle.js_grammar.specs.Rules.{left, sees}
-use Rattle.js_grammar.specs.Expressions.{further_item}
-use Rattle.js_grammar.proofs.Takes.{looped}
+use Rattle.parser_rules.specs.declared.class.Class.TheVariants as classes
+use Rattle.parser_rules.specs.Rules.{left, sees}
+use Rattle.parser_rules.specs.Expressions.{further_item}
+use Rattle.parser_rules.proofs.Takes.{looped}
 use Rattle.js_parser.specs.State.{state_of}
 use Rattle.js_parser.proofs.grammar.Grammar.further_items.Given as goal
 

@@ -1,9 +1,9 @@
 use Rattle.std.proofs.Common.{◌≡◌, [], ◌∷◌}
-use Rattle.js_grammar.specs.declared.class.Class.TheVariants as classes
-use Rattle.js_grammar.specs.declared.form.Form.TheVariants as forms
-use Rattle.js_grammar.specs.declared.form.Form.TheVariants.{Item}
-use Rattle.js_grammar.specs.Rules.{left, sees_other, inside}
-use Rattle.js_grammar.proofs.Takes.{looped}
+use Rattle.parser_rules.specs.declared.class.Class.TheVariants as classes
+use Rattle.parser_rules.specs.declared.form.Form.TheVariants as forms
+use Rattle.parser_rules.specs.declared.form.Form.TheVariants.{Item}
+use Rattle.parser_rules.specs.Rules.{left, sees_other, inside}
+use Rattle.parser_rules.proofs.Takes.{looped}
 use Rattle.js_parser.specs.State.{state_of}
 use Rattle.js_parser.proofs.grammar.Grammar.item_list.Given as goal
 

@@ -1,7 +1,7 @@
 use Rattle.std.proofs.Common.{◌≡◌}
-use Rattle.js_grammar.specs.Rules.{left, sees}
-use Rattle.js_grammar.specs.Expressions.{product, product_operators}
-use Rattle.js_grammar.proofs.Takes.{looped}
+use Rattle.parser_rules.specs.Rules.{left, sees}
+use Rattle.parser_rules.specs.Expressions.{product, product_operators}
+use Rattle.parser_rules.proofs.Takes.{looped}
 use Rattle.js_parser.specs.State.{state_of}
 use Rattle.js_parser.proofs.grammar.Grammar.products.Given as goal
 

@@ -1,6 +1,6 @@
 use Rattle.std.proofs.Common.{refl}
-use Rattle.js_grammar.specs.Work as work
-use Rattle.js_grammar.specs.Rules as rules
+use Rattle.parser_rules.specs.Work as work
+use Rattle.parser_rules.specs.Rules as rules
 use Rattle.js_parser.specs.State.{state_of}
 use Rattle.js_parser.proofs.Steps as steps
 use Rattle.js_parser.proofs.Works.{ok_map}

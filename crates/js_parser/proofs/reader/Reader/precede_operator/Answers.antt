@@ -1,8 +1,8 @@
 use Rattle.std.proofs.Common.{ap, ◌∙◌}
 use Rattle.js_syntax.specs.declared.kind.Kind.{Kind}
-use Rattle.js_grammar.specs.declared.class.Class.{Class}
-use Rattle.js_grammar.specs.Work as work
-use Rattle.js_grammar.specs.Rules as rules
+use Rattle.parser_rules.specs.declared.class.Class.{Class}
+use Rattle.parser_rules.specs.Work as work
+use Rattle.parser_rules.specs.Rules as rules
 use Rattle.js_parser.specs.State.{rest_of, state_of}
 use Rattle.js_parser.specs.Changes.{work_in}
 use Rattle.js_parser.proofs.Steps as steps

@@ -1,7 +1,7 @@
 use Rattle.std.proofs.Common.{[], ◌∷◌, ap, ◌∙◌}
-use Rattle.js_grammar.specs.declared.class.Class.{Class}
-use Rattle.js_grammar.specs.Classes.{is_one_of}
-use Rattle.js_grammar.specs.Rules as rules
+use Rattle.parser_rules.specs.declared.class.Class.{Class}
+use Rattle.parser_rules.specs.Classes.{is_one_of}
+use Rattle.parser_rules.specs.Rules as rules
 use Rattle.js_parser.proofs.Steps as steps
 use Rattle.js_parser.proofs.reader.Reader.sees.Goals as goal
 

@@ -1,5 +1,5 @@
 use Rattle.std.proofs.Common.{◌∙◌}
-use Rattle.js_grammar.specs.Rules as rules
+use Rattle.parser_rules.specs.Rules as rules
 use Rattle.js_parser.proofs.Steps as steps
 use Rattle.js_parser.proofs.reader.Reader.sees_word.Goals as goal
 

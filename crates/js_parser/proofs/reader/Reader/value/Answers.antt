@@ -1,7 +1,7 @@
 use Rattle.std.proofs.Common.{List, ap}
 use Rattle.js_lexer.specs.declared.token.Token.{Token}
-use Rattle.js_grammar.specs.Work as work
-use Rattle.js_grammar.specs.Rules as rules
+use Rattle.parser_rules.specs.Work as work
+use Rattle.parser_rules.specs.Rules as rules
 use Rattle.js_parser.specs.State.{rest_of, state_of}
 use Rattle.js_parser.specs.Changes.{work_in}
 use Rattle.js_parser.proofs.Steps as steps

@@ -1,5 +1,0 @@
-use Rattle.js_derivation.proofs.FirstBad.{literals_first}
-use Rattle.js_derivation.proofs.laws.literals_have_a_first_bad_token.Goals as goal
-
-pub returns : goal.returns
-returns c = literals_first

@@ -1,5 +1,0 @@
-use Rattle.js_derivation.proofs.FirstBad.{scripts_first}
-use Rattle.js_derivation.proofs.laws.scripts_have_a_first_bad_token.Goals as goal
-
-pub returns : goal.returns
-returns c = scripts_first

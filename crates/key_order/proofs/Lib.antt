@@ -1,4 +1,0 @@
-pub mod KeyLemmas
-pub mod SortLemmas
-pub mod IndexLemmas
-pub mod KeyOrderLaws

@@ -1,5 +1,0 @@
-use Rattle.key_order.proofs.IndexLemmas.{index_of-found}
-use Rattle.key_order.proofs.order.index_of.Goals as goal
-
-pub returns-clause-value : goal.returns-clause-value
-returns-clause-value c = index_of-found c.args.key.now c.decimal_index.result c.decimal_index.ensures.some c.decimal_index.ensures.none

@@ -1,0 +1,7 @@
+pub mod Classes
+pub mod Work
+pub mod Rules
+pub mod Expressions
+pub mod Statements
+pub mod Literals
+pub mod Grammar

@@ -1,3 +1,0 @@
-mod FunctionLemmas
-mod Sequences
-pub mod Sound

@@ -1,4 +1,0 @@
-pub mod Ends
-pub mod Lists
-pub mod Scripts
-pub mod Steps

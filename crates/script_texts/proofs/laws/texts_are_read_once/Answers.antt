@@ -1,5 +1,0 @@
-use Rattle.script_texts.proofs.ReadingLemmas.{reads_once}
-use Rattle.script_texts.proofs.laws.texts_are_read_once.Goals as goal
-
-pub returns : goal.returns
-returns c = λ bytes one other first second. reads_once bytes one other (c.one_reading.ensures bytes) c.scripts_derive.ensures first second

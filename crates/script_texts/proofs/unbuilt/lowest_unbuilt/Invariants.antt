@@ -1,6 +1,0 @@
-use Rattle.std.proofs.Common.{◌≡◌}
-use Rattle.script_texts.specs.Lowest.{lowest_below}
-use Rattle.script_texts.proofs.unbuilt.lowest_unbuilt.Given as goal
-
-abbrev pub invariant-loop-n : goal.invariant-loop-n
-invariant-loop-n l = l.lowest ≡ lowest_below l.script l.n

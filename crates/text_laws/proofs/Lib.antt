@@ -1,2 +1,0 @@
-mod CharacterBytes
-mod FaultLemmas

@@ -1,5 +1,0 @@
-use Rattle.text_laws.proofs.FaultLemmas.{fault_is_first}
-use Rattle.text_laws.proofs.laws.fault_is_first.Goals as goal
-
-pub returns : goal.returns
-returns c = fault_is_first
