@@ -1,71 +1,71 @@
-//! How many texts held and how many failed, in the table that is run and in all.
+//! Which rows failed: each is printed, and at last whether all held.
 
-use crate::rows::Row;
+use crate::tables::{Row, Table};
 use anyhow::Error;
 
 #[derive(Drop)]
 pub struct Tally {
-    /// Texts of the table that is run.
-    table: u64,
-    held: u64,
     failed: u64,
 }
 
 impl Tally {
     pub fn new() -> Tally {
-        Tally {
-            table: 0,
-            held: 0,
-            failed: 0,
+        Tally { failed: 0 }
+    }
+
+    /// One line with the kind and the name of a table, and one more where the number of its rows isn't that of its head.
+    pub fn begin_table<R: Print>(&mut self, rt: &R, table: &Table) -> Result<(), Error> {
+        println!(rt; "{} {}", table.kind, table.name)?;
+        if table.rows.len() != table.count {
+            self.failed = self.failed.saturating_add(1);
+            println!(rt;
+                "{}: {} rows, not {}",
+                table.place,
+                table.rows.len(),
+                table.count
+            )?;
         }
+        Ok(())
     }
 
-    pub fn hold(&mut self) {
-        self.table = self.table.saturating_add(1);
-        self.held = self.held.saturating_add(1);
-    }
-
-    /// A row holds where what came of a text is what was wanted; else it fails.
-    pub fn check<R: Print + AllocGlobal>(
+    /// A row holds where its answer is what was wanted; else it fails.
+    pub fn check<R: Print>(
         &mut self,
         rt: &R,
         row: &Row,
-        text: &[u8],
         wanted: &str,
-        found: &str,
+        answer: &str,
     ) -> Result<(), Error> {
-        if found == wanted {
-            self.hold();
+        if answer == wanted {
             return Ok(());
         }
-        self.fail(rt, row, text, wanted, found)
+        self.fail(rt, row, wanted, answer)
     }
 
-    /// One line with the place of the row, what was wanted of the text, and what came.
-    pub fn fail<R: Print + AllocGlobal>(
+    /// One line with the place of the row, what it asks, what was wanted, and the answer.
+    pub fn fail<R: Print>(
         &mut self,
         rt: &R,
         row: &Row,
-        text: &[u8],
         wanted: &str,
-        found: &str,
+        answer: &str,
     ) -> Result<(), Error> {
-        self.table = self.table.saturating_add(1);
         self.failed = self.failed.saturating_add(1);
-        let text = String::from_utf8_lossy(rt.alloc(), text)?;
-        println!(rt; "{}: {text:?} is {found:?}, not {wanted:?}", row.place)?;
+        let asked = match row.fields.first() {
+            Some(field) => field.as_str(),
+            None => "",
+        };
+        println!(rt; "{}: {asked:?} is {answer:?}, not {wanted:?}", row.place)?;
         Ok(())
     }
 
-    /// One line with the number of texts of a table, which ends here.
-    pub fn tell_table(&mut self, rt: &impl Print, file: &str, table: &str) -> Result<(), Error> {
-        println!(rt; "{file} {table}: {} rows", self.table)?;
-        self.table = 0;
-        Ok(())
-    }
-
-    pub fn tell_all(&self, rt: &impl Print) -> Result<(), Error> {
-        println!(rt; "{} rows held, {} failed", self.held, self.failed)?;
+    /// The last line.
+    pub fn end<R: Print>(&self, rt: &R) -> Result<(), Error> {
+        if self.failed == 0 {
+            println!(rt; "all rows hold")?;
+        } else {
+            println!(rt; "{} failed", self.failed)?;
+        }
         Ok(())
     }
 }

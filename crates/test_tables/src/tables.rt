@@ -1,4 +1,4 @@
-//! Files of rows: tables with rows, and rows with fields. README.md tells their form.
+//! Files of tables: tables with rows, and rows with fields. README.md tells their form.
 
 use anyhow::{Error, bail};
 use std::alloc::Global;
@@ -24,9 +24,15 @@ impl Row {
     }
 }
 
+/// A table: its head says what kind of rows it has, its name, and how many rows there are.
 #[derive(Drop)]
 pub struct Table {
+    /// Its file and the line of its head.
+    pub place: String,
+    pub kind: String,
     pub name: String,
+    /// How many rows the head says that there are.
+    pub count: usize,
     pub rows: Vec<Row>,
 }
 
@@ -44,16 +50,6 @@ pub fn read_tables<R: Files + AllocGlobal>(rt: &R, file: &str) -> Result<Vec<Tab
     Ok(tables)
 }
 
-/// The table of a name.
-pub fn table_named<'a>(tables: &'a [Table], name: &str) -> Result<&'a Table, Error> {
-    for table in tables {
-        if table.name.as_str() == name {
-            return Ok(table);
-        }
-    }
-    bail!("no table {name}")
-}
-
 /// A line is empty, a remark, the head of a table, or a row of the last table.
 fn take_line(
     alloc: Global,
@@ -65,7 +61,7 @@ fn take_line(
         return Ok(());
     }
     if let Some(head) = line.strip_prefix("§ ") {
-        tables.push(table_of(alloc, head)?)?;
+        tables.push(table_of(alloc, place, head)?)?;
         return Ok(());
     }
     let row = row_of(alloc, place, line)?;
@@ -76,14 +72,27 @@ fn take_line(
     Ok(())
 }
 
-/// A table without rows. Its head is its name, `: `, and what its rows are.
-fn table_of(alloc: Global, head: &str) -> Result<Table, Error> {
-    let Some((name, _)) = head.split_once(": ") else {
-        bail!("{head}: a table has a name and a remark");
+/// A table without rows. Its head is `KIND NAME (COUNT): ` and what its rows show.
+fn table_of(alloc: Global, place: String, head: &str) -> Result<Table, Error> {
+    let Some((title, _)) = head.split_once("): ") else {
+        bail!("{place}: a head is KIND NAME (COUNT): and what the rows show");
+    };
+    let Some((names, count)) = title.rsplit_once(" (") else {
+        bail!("{place}: a head has the number of its rows in parentheses");
+    };
+    let Some((kind, name)) = names.split_once(' ') else {
+        bail!("{place}: a head has a kind and a name");
+    };
+    let count = match count.parse::<usize>() {
+        Ok(count) => count,
+        Err(_) => bail!("{place}: {count} is no number of rows"),
     };
     Ok(Table {
+        kind: String::from_str(alloc, kind)?,
         name: String::from_str(alloc, name)?,
+        count,
         rows: Vec::new(alloc),
+        place,
     })
 }
 
