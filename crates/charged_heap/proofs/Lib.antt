@@ -2,3 +2,4 @@ pub mod BindingLemmas
 pub mod Charges
 pub mod ClosedLaws
 pub mod GrowthLaws
+mod Replaced

@@ -3,3 +3,4 @@ pub mod Store
 pub mod Room
 pub mod Growth
 pub mod Closed
+pub mod Ends

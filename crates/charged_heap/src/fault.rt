@@ -5,6 +5,7 @@ ghost use Rattle.charged_heap.specs.declared.fault.Fail.TheVariants as fail_kind
 ghost use Rattle.charged_heap.specs.Room.{fail_of};
 
 use crate::Value;
+use ivm_text::{NoMemory, Overrun};
 use std::alloc::{AllocError, AllocFailed};
 use thiserror::Error;
 
@@ -12,15 +13,8 @@ use thiserror::Error;
 #[derive(Debug, Clone, Copy, PartialEq, Eq, Error)]
 pub enum HeapFault {
     /// The cells charged and those asked are together above the limit.
-    #[error("{charged} cells charged and {asked} asked, of {limit}")]
-    Over {
-        /// The charge before the call, in cells.
-        charged: u32,
-        /// The price of what was to be added, in cells; 4,294,967,295 stands for all above it too.
-        asked: u32,
-        /// The most cells that the heap may have charged.
-        limit: u32,
-    },
+    #[error("{0}")]
+    Over(Overrun),
     #[error("no memory")]
     NoMemory,
 }
@@ -47,13 +41,9 @@ pub enum Fail {
     /// The script throws this value.
     #[error("a value is thrown")]
     Throw(Value),
-    /// The heap is full; the numbers are those of the heap's own fault.
-    #[error("{charged} cells charged and {asked} asked, of {limit}")]
-    Over {
-        charged: u32,
-        asked: u32,
-        limit: u32,
-    },
+    /// The heap is full.
+    #[error("{0}")]
+    Over(Overrun),
     #[error("no memory")]
     NoMemory,
 }
@@ -63,17 +53,17 @@ impl From<HeapFault> for Fail {
 
     fn from(fault: HeapFault) -> Fail {
         match fault {
-            HeapFault::Over {
-                charged,
-                asked,
-                limit,
-            } => Fail::Over {
-                charged,
-                asked,
-                limit,
-            },
+            HeapFault::Over(overrun) => Fail::Over(overrun),
             HeapFault::NoMemory => Fail::NoMemory,
         }
+    }
+}
+
+impl From<NoMemory> for Fail {
+    ghost from_gives = { λ _ fail. fail ≡ fail_kind.NoMemory };
+
+    fn from(_: NoMemory) -> Fail {
+        Fail::NoMemory
     }
 }
 

@@ -13,7 +13,7 @@ use crate::{
     BINDING_CELLS, Binding, ELEMENT_CELLS, GREATEST_TOLD, HeapFault, Item, PromiseState,
     REACTION_CELLS, Reaction, Value,
 };
-use ivm_text::{CloneWhole, NoMemory, Units};
+use ivm_text::{CloneWhole, NoMemory, Overrun, Units};
 use std::alloc::Global;
 use std::marker::Model;
 
@@ -101,11 +101,11 @@ impl Heap {
         ensures limit { self.now.limit < 2 ^ 32 }
     {
         if asked > (self.limit - self.charged) as u64 {
-            return Err(HeapFault::Over {
+            return Err(HeapFault::Over(Overrun {
                 charged: self.charged,
                 asked: asked.min(GREATEST_TOLD) as u32,
                 limit: self.limit,
-            });
+            }));
         }
         Ok(())
     }
@@ -191,10 +191,12 @@ impl Heap {
         Ok(())
     }
 
-    /// Takes an array's last element off, and gives its cell back; none where the array is empty.
+    /// Takes an array's last element off, and gives its cell back; none where the array is empty, and then the heap is
+    /// as it was.
+    #[tactic(auto, using(crate::proofs::Replaced::replaced_by_itself))]
     pub fn pop(&mut self, n: u32) -> Option<Value>
         requires { IsAt IsArray self.old n }
-        ensures last { MatchOption result (elements (item_at self.old n) ≡ []) (λ last. elements (item_at self.old n) ≡ elements (item_at self.new n) ++ last ∷ []) }
+        ensures last { MatchOption result ((elements (item_at self.old n) ≡ []) × (self.new ≡ self.old)) (λ last. elements (item_at self.old n) ≡ elements (item_at self.new n) ++ last ∷ []) }
         ensures rest { self.new ≡ with_item self.old n (with_elements (item_at self.old n) (elements (item_at self.new n))) }
 
         ensures grown { Grows self.old self.new }

@@ -2,7 +2,8 @@
 //!
 //! Contracts see a `Heap` as a `Store`: the list of its items, the first made first, and its limit.
 //! Rely on: the charge is the sum of the prices and at most the limit; a refused call changes nothing.
-//! Over `ivm_text`, `ivm_text`, `ivm_text` and `indexmap`; under all that evaluates, copies or holds values.
+//! A call over it gives, throws or is refused as `specs/Ends.antt` says of all that evaluates.
+//! Over `ivm_text` and `indexmap`; under `js_ops` and all that evaluates, copies or holds values.
 //! Begin with `specs/Price.antt` and `specs/Store.antt`, then `src/heap.rt`.
 #![tactic(auto)]
 
@@ -12,6 +13,7 @@ mod fault;
 mod heap;
 mod item;
 mod kinds;
+mod making;
 mod order;
 mod price;
 mod props;
@@ -22,6 +24,7 @@ pub use builtin::Builtin;
 pub use fault::{Fail, HeapFault};
 pub use heap::Heap;
 pub use item::{Item, ItemKind};
+pub use making::make;
 pub use order::{INDEX_END, index_of, key_order};
 pub use price::{
     BINDING_CELLS, ELEMENT_CELLS, GREATEST_TOLD, ITEM_CELLS, PROPERTY_CELLS, REACTION_CELLS,

@@ -4,7 +4,6 @@ pub mod Lookup
 pub mod Names
 pub mod Scopes
 pub mod Clashes
-pub mod Ends
 pub mod Lists
 pub mod Scripts
 pub mod Steps

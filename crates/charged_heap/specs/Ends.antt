@@ -1,13 +1,14 @@
 -- What a call over a heap gives, or why it gives nothing, with the store after it; and how one goes on after another.
--- This project's own; docs/PRICES.md, "When the heap is full".
-use Rattle.std.specs.Prelude.{◌≡◌, ◌≢◌, ℕ, ◌+◌, length, min, Result, Ok, Err, nat_le, if◌then◌else◌}
+-- This project's own; docs/PRICES.md, "When the heap is full". No statement about ECMA-262.
+use Rattle.std.specs.Prelude.{◌≡◌, ◌≢◌, ℕ, ◌+◌, length, Result, Ok, Err, nat_le, if◌then◌else◌}
 use Rattle.charged_heap.specs.Price.{charge_of, price_of}
 use Rattle.charged_heap.specs.Closed.{IsSoundValue}
+use Rattle.charged_heap.specs.Room.{overrun_of}
 use Rattle.charged_heap.specs.Store.{Store, with_more}
-use Rattle.charged_heap.specs.declared.price.TheConstants.{GREATEST_TOLD}
 use Rattle.charged_heap.specs.declared.fault.Fail.{Fail}
 use Rattle.charged_heap.specs.declared.fault.Fail.TheVariants.{Throw, Over, NoMemory}
 use Rattle.charged_heap.specs.declared.item.Item.{Item}
+use Rattle.charged_heap.specs.declared.values.Value.{Value}
 
 -- what is given, what is thrown or a refusal, and the store after it
 abbrev pub Ends : Type 0 → Type 0
@@ -26,9 +27,16 @@ and_then (Err fail, s) next = (Err fail, s)
 abbrev pub item_made : Item → Store → Ends ℕ
 item_made one s =
     if nat_le (charge_of s.items + price_of one) s.limit then (Ok (length s.items), with_more s one)
-    else (Err (Over (charge_of s.items) (min (price_of one) GREATEST_TOLD) s.limit), s)
+    else (Err (Over (overrun_of s (price_of one))), s)
+
+-- ---- what holds of each end
 
 -- what is thrown, if anything, is a value that the store has
 abbrev pub IsSoundFail : Store → Fail → Type 0
 IsSoundFail s (Throw v) = IsSoundValue s v
 IsSoundFail s _ = Unit {0}
+
+-- so is a value that is given
+abbrev pub IsSoundResult : Store → Result Value Fail → Type 0
+IsSoundResult s (Ok v) = IsSoundValue s v
+IsSoundResult s (Err fail) = IsSoundFail s fail
