@@ -4,7 +4,8 @@ use Rattle.std.specs.Prelude.{ℕ, List, codes}
 use Rattle.ivm_text.specs.declared.copies.ErrorKind.{ErrorKind}
 use Rattle.ivm_text.specs.declared.copies.ErrorKind.TheVariants.{TypeError, RangeError}
 use Rattle.charged_heap.specs.Store.{Store}
-use Rattle.js_ops.specs.Outcome.{Outcome, thrown}
+use Rattle.charged_heap.specs.Ends.{Ends}
+use Rattle.js_ops.specs.Outcome.{thrown}
 use Rattle.js_members.specs.declared.fault.MemberFault.{MemberFault}
 use Rattle.js_members.specs.declared.fault.MemberFault.TheVariants.{NoObject, PastEnd, NotWritable, BadArgument}
 
@@ -21,5 +22,5 @@ fault_text NotWritable = codes "cannot write this member"
 fault_text BadArgument = codes "bad argument"
 
 -- a new error of that kind, with that text, thrown
-abbrev pub fault_thrown : MemberFault → Store → Outcome
+abbrev pub fault_thrown : MemberFault → Store → Ends Value
 fault_thrown fault s = thrown (fault_kind fault) (fault_text fault) s

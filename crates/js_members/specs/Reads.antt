@@ -12,7 +12,8 @@ use Rattle.charged_heap.specs.declared.item.Item.{Item}
 use Rattle.charged_heap.specs.declared.item.Item.TheVariants as item
 use Rattle.charged_heap.specs.declared.values.Value.{Value}
 use Rattle.charged_heap.specs.declared.values.Value.TheVariants as value
-use Rattle.js_ops.specs.Outcome.{Outcome, text_made}
+use Rattle.charged_heap.specs.Ends.{Ends}
+use Rattle.js_ops.specs.Outcome.{text_made}
 use Rattle.js_members.specs.Faults.{fault_thrown}
 use Rattle.js_members.specs.declared.fault.MemberFault.TheVariants.{NoObject}
 use Rattle.js_members.specs.declared.names.MemberName.{MemberName}
@@ -99,13 +100,13 @@ reading_of s _ key = Held value.Undefined
 -- ---- what a read gives
 
 -- a reading carried out: what is held is free, a string or an error is made
-abbrev pub reading_outcome : Reading → Store → Outcome
+abbrev pub reading_outcome : Reading → Store → Ends Value
 reading_outcome (Held v) s = (Ok v, s)
 reading_outcome (Made units) s = text_made units s
 reading_outcome (Fault fault) s = fault_thrown fault s
 
 -- what a read of the key gives
-unfoldable pub read_outcome : Value → List ℕ → Store → Outcome
+unfoldable pub read_outcome : Value → List ℕ → Store → Ends Value
 read_outcome base key s = reading_outcome (reading_of s base key) s
 
 -- what is held is a value that a script can hold

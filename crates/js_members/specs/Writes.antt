@@ -11,7 +11,7 @@ use Rattle.charged_heap.specs.declared.item.Item.{Item}
 use Rattle.charged_heap.specs.declared.item.Item.TheVariants as item
 use Rattle.charged_heap.specs.declared.values.Value.{Value}
 use Rattle.charged_heap.specs.declared.values.Value.TheVariants as value
-use Rattle.js_ops.specs.Outcome.{Outcome}
+use Rattle.charged_heap.specs.Ends.{Ends}
 use Rattle.js_members.specs.Faults.{fault_thrown}
 use Rattle.js_members.specs.declared.fault.MemberFault.TheVariants.{NoObject, PastEnd, NotWritable}
 use Rattle.js_members.specs.declared.target.Target.{Target}
@@ -42,7 +42,7 @@ target_of s _ key = Refused NotWritable
 -- ---- what it leaves
 
 -- so many cells asked, and then the rest; where they don't fit, the refusal alone
-abbrev pub charged : ℕ → Store → Outcome → Outcome
+abbrev pub charged : ℕ → Store → Ends Value → Ends Value
 charged asked s rest =
     if nat_le (charge_of s.items + asked) s.limit then rest
     else (Err (Over (charge_of s.items) (min asked GREATEST_TOLD) s.limit), s)
@@ -56,7 +56,7 @@ abbrev pub appended : Store → ℕ → Value → Store
 appended s n v = with_item s n (with_elements (item_at s n) (elements (item_at s n) ++ v ∷ []))
 
 -- the value written there, and given
-abbrev pub target_outcome : Target → List ℕ → Value → Store → Outcome
+abbrev pub target_outcome : Target → List ℕ → Value → Store → Ends Value
 target_outcome (Property n) key v s =
     charged (price_at (item_at s n) key) s (Ok v, with_item s n (with_property (item_at s n) key v))
 target_outcome (Element n k) key v s = (Ok v, with_item s n (with_place (item_at s n) k v))
@@ -64,7 +64,7 @@ target_outcome (End n) key v s = charged ELEMENT_CELLS s (Ok v, appended s n v)
 target_outcome (Refused fault) key v s = fault_thrown fault s
 
 -- what a write of the value to the key gives
-unfoldable pub write_outcome : Value → List ℕ → Value → Store → Outcome
+unfoldable pub write_outcome : Value → List ℕ → Value → Store → Ends Value
 write_outcome base key v s = target_outcome (target_of s base key) key v s
 
 -- ---- what holds of each target

@@ -4,7 +4,7 @@ ghost use Rattle.std.specs.List.{All};
 ghost use Rattle.charged_heap.specs.Closed.{IsClosed, IsSoundValue};
 ghost use Rattle.charged_heap.specs.Growth.{Grows};
 ghost use Rattle.charged_heap.specs.Store.{IsAt, IsArray, elements, item_at};
-ghost use Rattle.js_ops.specs.Outcome.{Gives, IsSoundResult};
+ghost use Rattle.charged_heap.specs.Ends.{Meets, IsSoundResult};
 ghost use Rattle.js_members.specs.Arrays.{array_at, array_number, pushed, popped, push_outcome, pop_outcome};
 
 use crate::MemberFault;
@@ -43,7 +43,7 @@ fn push_all(heap: &mut Heap, n: u32, values: &[Value]) -> Result<Value, Fail>
     requires array { IsAt IsArray heap.old n }
     requires values { All (IsSoundValue heap.old) values.now }
 
-    ensures gives { Gives result heap.new (pushed n values.now heap.old) }
+    ensures gives { Meets result heap.new (pushed n values.now heap.old) }
 
     ensures grown { Grows heap.old heap.new }
     ensures closed { IsClosed heap.old → IsClosed heap.new }
@@ -71,7 +71,7 @@ pub fn push(
     requires receiver { IsSoundValue heap.old receiver }
     requires arguments { All (IsSoundValue heap.old) arguments.now }
 
-    ensures gives { Gives result heap.new (push_outcome receiver arguments.now heap.old) }
+    ensures gives { Meets result heap.new (push_outcome receiver arguments.now heap.old) }
 
     ensures grown { Grows heap.old heap.new }
     ensures closed { IsClosed heap.old → IsClosed heap.new }
@@ -109,7 +109,7 @@ fn pop_at(heap: &mut Heap, n: u32) -> Value
 pub fn pop(alloc: Global, heap: &mut Heap, receiver: Value) -> Result<Value, Fail>
     requires { IsSoundValue heap.old receiver }
 
-    ensures gives { Gives result heap.new (pop_outcome receiver heap.old) }
+    ensures gives { Meets result heap.new (pop_outcome receiver heap.old) }
 
     ensures grown { Grows heap.old heap.new }
     ensures closed { IsClosed heap.old → IsClosed heap.new }

@@ -2,7 +2,7 @@
 ghost use Rattle.std.specs.Prelude.{◌≡◌, IsErr};
 ghost use Rattle.charged_heap.specs.Closed.{IsClosed};
 ghost use Rattle.charged_heap.specs.Growth.{Grows};
-ghost use Rattle.js_ops.specs.Outcome.{Gives, IsSoundResult};
+ghost use Rattle.charged_heap.specs.Ends.{Meets, IsSoundResult};
 ghost use Rattle.js_members.specs.Faults.{fault_kind, fault_text, fault_thrown};
 
 use charged_heap::{Fail, Heap, Value};
@@ -50,7 +50,7 @@ impl MemberFault {
 
 /// Throws the error of a fault.
 pub(crate) fn refuse(alloc: Global, heap: &mut Heap, fault: MemberFault) -> Result<Value, Fail>
-    ensures gives { Gives result heap.new (fault_thrown fault heap.old) }
+    ensures gives { Meets result heap.new (fault_thrown fault heap.old) }
     ensures err { IsErr result }
 
     ensures grown { Grows heap.old heap.new }

@@ -2,7 +2,7 @@
 ghost use Rattle.std.specs.Prelude.{◌≡◌};
 ghost use Rattle.charged_heap.specs.Closed.{IsClosed, IsSoundValue};
 ghost use Rattle.charged_heap.specs.Growth.{Grows};
-ghost use Rattle.js_ops.specs.Outcome.{Gives, IsSoundResult};
+ghost use Rattle.charged_heap.specs.Ends.{Meets, IsSoundResult};
 ghost use Rattle.js_members.specs.Reads.{reading_outcome, read_outcome, IsSoundReading};
 ghost use Rattle.js_members.specs.Writes.{target_outcome, write_outcome, FitsTarget};
 
@@ -17,7 +17,7 @@ use std::alloc::Global;
 
 /// Carries a reading out: makes its string, or its error and throws it.
 fn carry_out(alloc: Global, heap: &mut Heap, reading: Reading) -> Result<Value, Fail>
-    ensures gives { Gives result heap.new (reading_outcome reading heap.old) }
+    ensures gives { Meets result heap.new (reading_outcome reading heap.old) }
 
     ensures grown { Grows heap.old heap.new }
     ensures closed { IsClosed heap.old → IsClosed heap.new }
@@ -41,7 +41,7 @@ fn carry_out(alloc: Global, heap: &mut Heap, reading: Reading) -> Result<Value, 
 pub fn read(alloc: Global, heap: &mut Heap, base: Value, key: &Units) -> Result<Value, Fail>
     requires { IsSoundValue heap.old base }
 
-    ensures gives { Gives result heap.new (read_outcome base key.now heap.old) }
+    ensures gives { Meets result heap.new (read_outcome base key.now heap.old) }
 
     ensures grown { Grows heap.old heap.new }
     ensures closed { IsClosed heap.old → IsClosed heap.new }
@@ -62,7 +62,7 @@ fn write_to(
     requires target { FitsTarget heap.old target }
     requires value { IsSoundValue heap.old value }
 
-    ensures gives { Gives result heap.new (target_outcome target key.now value heap.old) }
+    ensures gives { Meets result heap.new (target_outcome target key.now value heap.old) }
 
     ensures grown { Grows heap.old heap.new }
     ensures closed { IsClosed heap.old → IsClosed heap.new }
@@ -95,7 +95,7 @@ pub fn write(
     requires base { IsSoundValue heap.old base }
     requires value { IsSoundValue heap.old value }
 
-    ensures gives { Gives result heap.new (write_outcome base key.now value heap.old) }
+    ensures gives { Meets result heap.new (write_outcome base key.now value heap.old) }
 
     ensures grown { Grows heap.old heap.new }
     ensures closed { IsClosed heap.old → IsClosed heap.new }

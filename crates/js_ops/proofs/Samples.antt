@@ -72,11 +72,11 @@ error_that_fits : thrown TypeError (codes "ab") (record { items = []; limit = 6 
 error_that_fits = refl
 
 error_that_does_not : thrown TypeError (codes "ab") (record { items = []; limit = 5 })
-    ≡ (Err (Over 2 4 5), record { items = Text (codes "ab") ∷ []; limit = 5 })
+    ≡ (Err (Over (record { charged = 2; asked = 4; limit = 5 })), record { items = Text (codes "ab") ∷ []; limit = 5 })
 error_that_does_not = refl
 
 message_that_does_not : thrown TypeError (codes "ab") (record { items = []; limit = 1 })
-    ≡ (Err (Over 0 2 1), record { items = []; limit = 1 })
+    ≡ (Err (Over (record { charged = 0; asked = 2; limit = 1 })), record { items = []; limit = 1 })
 message_that_does_not = refl
 
 -- the two strings joined: 2 cells, behind the one item of 2 cells that is there

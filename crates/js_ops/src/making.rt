@@ -2,23 +2,23 @@
 ghost use Rattle.std.specs.Prelude.{◌≡◌, IsErr};
 ghost use Rattle.charged_heap.specs.Closed.{IsClosed};
 ghost use Rattle.charged_heap.specs.Growth.{Grows};
-ghost use Rattle.js_ops.specs.Outcome.{Gives, IsSoundResult, text_made, thrown};
+ghost use Rattle.charged_heap.specs.Ends.{Meets, IsSoundResult};
+ghost use Rattle.js_ops.specs.Outcome.{text_made, thrown};
 
-use charged_heap::{Fail, Heap, Item, Value};
+use charged_heap::{Fail, Heap, Item, Value, make};
 use ivm_text::{ErrorKind, Units};
 
 /// Makes a new string of these units.
 ///
 /// `Over` comes exactly where its cells don't fit; then the heap is as it was. `NoMemory` may come.
 pub fn make_text(heap: &mut Heap, units: Units) -> Result<Value, Fail>
-    ensures gives { Gives result heap.new (text_made units heap.old) }
+    ensures gives { Meets result heap.new (text_made units heap.old) }
 
     ensures grown { Grows heap.old heap.new }
     ensures closed { IsClosed heap.old → IsClosed heap.new }
     ensures sound { IsSoundResult heap.new result }
 {
-    let number = heap.add(Item::Text(units))?;
-    Ok(Value::Item(number))
+    Ok(Value::Item(make(heap, Item::Text(units))?))
 }
 
 /// Throws a new error: its message is made first, and then the error, each with its own charge.
@@ -26,14 +26,14 @@ pub fn make_text(heap: &mut Heap, units: Units) -> Result<Value, Fail>
 /// It is always an `Err`: `Throw` with the error, or `Over` exactly where the cells of the message or
 /// then those of the error don't fit. A message that was made stays. `NoMemory` may come at either.
 pub fn throw(heap: &mut Heap, kind: ErrorKind, message: Units) -> Result<Value, Fail>
-    ensures gives { Gives result heap.new (thrown kind message heap.old) }
+    ensures gives { Meets result heap.new (thrown kind message heap.old) }
     ensures err { IsErr result }
 
     ensures grown { Grows heap.old heap.new }
     ensures closed { IsClosed heap.old → IsClosed heap.new }
     ensures sound { IsSoundResult heap.new result }
 {
-    let text = heap.add(Item::Text(message))?;
-    let error = heap.add(Item::Error(kind, text))?;
+    let text = make(heap, Item::Text(message))?;
+    let error = make(heap, Item::Error(kind, text))?;
     Err(Fail::Throw(Value::Item(error)))
 }

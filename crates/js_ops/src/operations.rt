@@ -2,7 +2,8 @@
 ghost use Rattle.std.specs.Prelude.{◌≡◌};
 ghost use Rattle.charged_heap.specs.Closed.{IsClosed, IsSoundValue};
 ghost use Rattle.charged_heap.specs.Growth.{Grows};
-ghost use Rattle.js_ops.specs.Outcome.{Gives, IsSoundResult, outcome_of, binary_outcome, unary_outcome};
+ghost use Rattle.charged_heap.specs.Ends.{Meets, IsSoundResult};
+ghost use Rattle.js_ops.specs.Outcome.{outcome_of, binary_outcome, unary_outcome};
 
 use crate::decide::{binary_answer, unary_answer};
 use crate::{Answer, BinaryOperator, UnaryOperator, make_text, throw};
@@ -12,7 +13,7 @@ use std::alloc::Global;
 
 /// Carries an answer out: makes its string, or its error and throws it.
 fn carry_out(alloc: Global, heap: &mut Heap, answer: Answer) -> Result<Value, Fail>
-    ensures gives { Gives result heap.new (outcome_of answer heap.old) }
+    ensures gives { Meets result heap.new (outcome_of answer heap.old) }
 
     ensures grown { Grows heap.old heap.new }
     ensures closed { IsClosed heap.old → IsClosed heap.new }
@@ -23,7 +24,7 @@ fn carry_out(alloc: Global, heap: &mut Heap, answer: Answer) -> Result<Value, Fa
         Answer::Number(number) => Ok(Value::Num(number)),
         Answer::Text(units) => make_text(heap, units),
         Answer::Fault(fault) => {
-            let message = Units::from_latin1(alloc, fault.message()).map_err(|_| Fail::NoMemory)?;
+            let message = Units::from_latin1(alloc, fault.message())?;
             throw(heap, fault.kind(), message)
         }
     }
@@ -47,13 +48,13 @@ pub fn binary(
     requires left { IsSoundValue heap.old left }
     requires right { IsSoundValue heap.old right }
 
-    ensures gives { Gives result heap.new (binary_outcome operator left right heap.old) }
+    ensures gives { Meets result heap.new (binary_outcome operator left right heap.old) }
 
     ensures grown { Grows heap.old heap.new }
     ensures closed { IsClosed heap.old → IsClosed heap.new }
     ensures sound { IsSoundResult heap.new result }
 {
-    let answer = binary_answer(alloc, heap, operator, left, right).map_err(|_| Fail::NoMemory)?;
+    let answer = binary_answer(alloc, heap, operator, left, right)?;
     carry_out(alloc, heap, answer)
 }
 
@@ -67,12 +68,12 @@ pub fn unary(
 ) -> Result<Value, Fail>
     requires { IsSoundValue heap.old operand }
 
-    ensures gives { Gives result heap.new (unary_outcome operator operand heap.old) }
+    ensures gives { Meets result heap.new (unary_outcome operator operand heap.old) }
 
     ensures grown { Grows heap.old heap.new }
     ensures closed { IsClosed heap.old → IsClosed heap.new }
     ensures sound { IsSoundResult heap.new result }
 {
-    let answer = unary_answer(alloc, heap, operator, operand).map_err(|_| Fail::NoMemory)?;
+    let answer = unary_answer(alloc, heap, operator, operand)?;
     carry_out(alloc, heap, answer)
 }

@@ -8,7 +8,7 @@ use Rattle.charged_heap.specs.declared.values.Value.TheVariants as value
 use Rattle.js_scopes.specs.Scopes.{initialised}
 use Rattle.js_trees.specs.declared.declaration.Declaration.{Declaration}
 use Rattle.js_trees.specs.declared.declaration.Declaration.TheVariants.{Variable, Constant, Function}
-use Rattle.js_scopes.specs.Ends.{Meets, and_then, item_made}
+use Rattle.charged_heap.specs.Ends.{Meets, and_then, item_made}
 use Rattle.js_scopes.specs.Lists.{function_item, functions_made}
 use Rattle.js_scopes.specs.Steps.{function_made}
 use Rattle.js_scopes.proofs.Sequences.{and_then_then, stopped}

@@ -14,7 +14,7 @@ use Rattle.js_scopes.specs.Bindings.{place_of, new_binding, with_new}
 use Rattle.js_scopes.specs.Scopes.{scope_made, scope_with, ScopeOutcome}
 use Rattle.js_trees.specs.declared.declaration.Declaration.{Declaration}
 use Rattle.js_trees.specs.declared.declaration.Declaration.TheVariants.{Variable, Constant, Function}
-use Rattle.js_scopes.specs.Ends.{Meets, IsSoundFail}
+use Rattle.charged_heap.specs.Ends.{Meets, IsSoundFail}
 use Rattle.js_scopes.specs.Lists.{with_parameters, with_declared}
 
 -- ---- names without values

@@ -3,7 +3,7 @@ use Rattle.std.proofs.Common.{◌≡◌, Result, Ok, Err, refl, ap}
 use Rattle.charged_heap.specs.Store.{Store}
 use Rattle.charged_heap.specs.declared.fault.Fail.{Fail}
 use Rattle.charged_heap.specs.declared.fault.Fail.TheVariants.{NoMemory}
-use Rattle.js_scopes.specs.Ends.{Ends, Meets, and_then}
+use Rattle.charged_heap.specs.Ends.{Ends, Meets, and_then}
 
 -- three in a row group either way
 pub and_then_then : {A B C : Type 0} (m : Ends A) (f : A → Store → Ends B) (g : B → Store → Ends C)

@@ -3,7 +3,7 @@
 use Rattle.std.specs.Prelude.{ℕ, List, Bool, true, false, ◌||◌, is_some}
 use Rattle.charged_heap.specs.Store.{Store, item_at, is_noted}
 use Rattle.charged_heap.specs.declared.item.Item.{Item}
-use Rattle.js_ops.specs.Outcome.{Outcome}
+use Rattle.charged_heap.specs.Ends.{Ends}
 use Rattle.js_scopes.specs.Bindings.{bindings_of, functions_of, place_of}
 use Rattle.js_scopes.specs.Faults.{fault_thrown}
 use Rattle.js_scopes.specs.declared.fault.NameFault.TheVariants.{AlreadyDeclared}
@@ -22,5 +22,5 @@ unfoldable pub is_clash : Store → ℕ → List ℕ → Bool → Bool
 is_clash s n name function = clashes (item_at s n) name function
 
 -- what a clash gives
-abbrev pub clash_outcome : List ℕ → Store → Outcome
+abbrev pub clash_outcome : List ℕ → Store → Ends Value
 clash_outcome name s = fault_thrown AlreadyDeclared name s

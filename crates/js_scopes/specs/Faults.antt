@@ -4,7 +4,8 @@ use Rattle.std.specs.Prelude.{ℕ, List, ◌++◌, codes}
 use Rattle.ivm_text.specs.declared.copies.ErrorKind.{ErrorKind}
 use Rattle.ivm_text.specs.declared.copies.ErrorKind.TheVariants.{TypeError, ReferenceError, SyntaxError}
 use Rattle.charged_heap.specs.Store.{Store}
-use Rattle.js_ops.specs.Outcome.{Outcome, thrown}
+use Rattle.charged_heap.specs.Ends.{Ends}
+use Rattle.js_ops.specs.Outcome.{thrown}
 use Rattle.js_scopes.specs.declared.fault.NameFault.{NameFault}
 use Rattle.js_scopes.specs.declared.fault.NameFault.TheVariants.{NotDefined, NotInitialised, Constant, AlreadyDeclared}
 
@@ -26,5 +27,5 @@ abbrev pub fault_text : NameFault → List ℕ → List ℕ
 fault_text fault name = name ++ fault_words fault
 
 -- a new error of that kind about the name, thrown
-abbrev pub fault_thrown : NameFault → List ℕ → Store → Outcome
+abbrev pub fault_thrown : NameFault → List ℕ → Store → Ends Value
 fault_thrown fault name s = thrown (fault_kind fault) (fault_text fault name) s

@@ -11,7 +11,7 @@ use Rattle.js_scopes.specs.Bindings.{with_new}
 use Rattle.js_scopes.specs.Scopes.{initialised, scope_made}
 use Rattle.js_trees.specs.declared.declaration.Declaration.{Declaration}
 use Rattle.js_trees.specs.declared.declaration.Declaration.TheVariants.{Variable, Constant, Function}
-use Rattle.js_scopes.specs.Ends.{Ends, and_then, item_made}
+use Rattle.charged_heap.specs.Ends.{Ends, and_then, item_made}
 
 -- ---- the names of a scope
 

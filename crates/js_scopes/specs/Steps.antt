@@ -10,7 +10,7 @@ use Rattle.js_scopes.specs.Clashes.{is_clash, clash_outcome}
 use Rattle.js_scopes.specs.Scopes.{initialised}
 use Rattle.js_trees.specs.declared.declaration.Declaration.{Declaration}
 use Rattle.js_trees.specs.declared.declaration.Declaration.TheVariants.{Variable, Constant, Function}
-use Rattle.js_scopes.specs.Ends.{Ends, and_then, item_made}
+use Rattle.charged_heap.specs.Ends.{Ends, and_then, item_made}
 use Rattle.js_scopes.specs.Lists.{function_item}
 use Rattle.js_scopes.specs.Scripts.{name_declared, noted, names_declared, functions_declared}
 

@@ -3,7 +3,7 @@ ghost use Rattle.std.specs.Prelude.{◌≡◌, IsErr};
 ghost use Rattle.charged_heap.specs.Closed.{IsClosed};
 ghost use Rattle.charged_heap.specs.Growth.{Grows};
 ghost use Rattle.charged_heap.specs.Store.{IsAt, IsScope, is_noted};
-ghost use Rattle.js_ops.specs.Outcome.{Gives, IsSoundResult};
+ghost use Rattle.charged_heap.specs.Ends.{Meets, IsSoundResult};
 ghost use Rattle.js_scopes.specs.Bindings.{functions_of};
 ghost use Rattle.js_scopes.specs.Clashes.{is_clash, clash_outcome};
 
@@ -42,7 +42,7 @@ pub fn is_clash(heap: &Heap, record_scope: u32, name: &Units, function: bool) ->
 /// It is always an `Err`: `Throw` with the error, or `Over` exactly where the cells of the message or
 /// then those of the error don't fit. A message that was made stays. `NoMemory` may come.
 pub fn refuse_clash(alloc: Global, heap: &mut Heap, name: &Units) -> Result<Value, Fail>
-    ensures gives { Gives result heap.new (clash_outcome name.now heap.old) }
+    ensures gives { Meets result heap.new (clash_outcome name.now heap.old) }
     ensures err { IsErr result }
 
     ensures grown { Grows heap.old heap.new }

@@ -2,7 +2,7 @@
 ghost use Rattle.std.specs.Prelude.{◌≡◌, IfOk, IsErr};
 ghost use Rattle.charged_heap.specs.Closed.{IsClosed};
 ghost use Rattle.charged_heap.specs.Growth.{Grows};
-ghost use Rattle.js_ops.specs.Outcome.{Gives, IsSoundResult};
+ghost use Rattle.charged_heap.specs.Ends.{Meets, IsSoundResult};
 ghost use Rattle.js_scopes.specs.Faults.{fault_kind, fault_words, fault_text, fault_thrown};
 
 use charged_heap::{Fail, Heap, Value};
@@ -63,7 +63,7 @@ pub(crate) fn refuse(
     fault: NameFault,
     name: &Units,
 ) -> Result<Value, Fail>
-    ensures gives { Gives result heap.new (fault_thrown fault name.now heap.old) }
+    ensures gives { Meets result heap.new (fault_thrown fault name.now heap.old) }
     ensures err { IsErr result }
 
     ensures grown { Grows heap.old heap.new }

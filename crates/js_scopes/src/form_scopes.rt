@@ -6,7 +6,7 @@ ghost use Rattle.charged_heap.specs.Growth.{Grows};
 ghost use Rattle.charged_heap.specs.Store.{IsAt, IsPlain, IsScope};
 ghost use Rattle.js_scopes.specs.Bindings.{with_new};
 ghost use Rattle.js_scopes.specs.Scopes.{scope_made};
-ghost use Rattle.js_scopes.specs.Ends.{Meets, IsSoundFail};
+ghost use Rattle.charged_heap.specs.Ends.{Meets, IsSoundFail};
 ghost use Rattle.js_scopes.specs.Lists.{with_parameters, with_declared, with_arguments, block_scope, call_scope, catch_scope, name_scope};
 
 use crate::list_functions::make_functions;
@@ -68,7 +68,7 @@ pub fn block_scope(
     make_functions(heap, script, global, scope, declared)
 }
 
-/// Gives parameters their arguments in order, and undefined where there are no more.
+/// Meets parameters their arguments in order, and undefined where there are no more.
 fn give_arguments(heap: &mut Heap, scope: u32, parameters: &[Units], arguments: &[Value])
     requires scope { IsAt IsScope heap.old scope }
     requires arguments { All (IsSoundValue heap.old) arguments.now }

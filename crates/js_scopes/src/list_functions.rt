@@ -4,7 +4,7 @@ ghost use Rattle.charged_heap.specs.Closed.{IsClosed, IsSoundValue};
 ghost use Rattle.charged_heap.specs.Growth.{Grows};
 ghost use Rattle.charged_heap.specs.Store.{IsAt, IsPlain, IsScope};
 ghost use Rattle.charged_heap.specs.declared.values.Value.TheVariants as value;
-ghost use Rattle.js_scopes.specs.Ends.{Meets, IsSoundFail, item_made};
+ghost use Rattle.charged_heap.specs.Ends.{Meets, IsSoundFail, item_made};
 ghost use Rattle.js_scopes.specs.Lists.{function_item, functions_made};
 ghost use Rattle.js_scopes.specs.Steps.{function_made};
 

@@ -4,7 +4,8 @@ ghost use Rattle.ivm_text.specs.Keys.{value_at};
 ghost use Rattle.charged_heap.specs.Closed.{IsClosed, IsSoundValue};
 ghost use Rattle.charged_heap.specs.Growth.{Grows};
 ghost use Rattle.charged_heap.specs.Store.{IsAt, IsPlain, IsScope, item_at, properties, with_item, with_property};
-ghost use Rattle.js_ops.specs.Outcome.{Gives, IsSoundResult, text_made};
+ghost use Rattle.charged_heap.specs.Ends.{Meets, IsSoundResult};
+ghost use Rattle.js_ops.specs.Outcome.{text_made};
 ghost use Rattle.js_scopes.specs.Bindings.{binding_at};
 ghost use Rattle.js_scopes.specs.Lookup.{lookup, IsBindingAt, IsFound};
 ghost use Rattle.js_scopes.specs.Names.{or_dead_zone, value_found, name_outcome, typeof_outcome, assigned_binding, assigned_found, assign_outcome};
@@ -81,7 +82,7 @@ pub fn read_name(
     requires scope { IsAt IsScope heap.old scope }
     requires global { IsAt IsPlain heap.old global }
 
-    ensures gives { Gives result heap.new (name_outcome name.now scope global heap.old) }
+    ensures gives { Meets result heap.new (name_outcome name.now scope global heap.old) }
 
     // A value asks for no memory.
     ensures free { IsOk (name_outcome name.now scope global heap.old).0 → IsOk result }
@@ -98,7 +99,7 @@ pub fn read_name(
 
 /// Makes the string `undefined`.
 fn make_undefined(alloc: Global, heap: &mut Heap) -> Result<Value, Fail>
-    ensures gives { Gives result heap.new (text_made (codes "undefined") heap.old) }
+    ensures gives { Meets result heap.new (text_made (codes "undefined") heap.old) }
 
     ensures grown { Grows heap.old heap.new }
     ensures closed { IsClosed heap.old → IsClosed heap.new }
@@ -126,7 +127,7 @@ pub fn type_of_name(
     requires scope { IsAt IsScope heap.old scope }
     requires global { IsAt IsPlain heap.old global }
 
-    ensures gives { Gives result heap.new (typeof_outcome name.now scope global heap.old) }
+    ensures gives { Meets result heap.new (typeof_outcome name.now scope global heap.old) }
 
     ensures grown { Grows heap.old heap.new }
     ensures closed { IsClosed heap.new }
@@ -151,7 +152,7 @@ fn assign_bound(
     requires there { IsBindingAt heap.old at }
     requires value { IsSoundValue heap.old value }
 
-    ensures gives { Gives result heap.new (assigned_binding (binding_at (item_at heap.old at.scope) at.place).value (binding_at (item_at heap.old at.scope) at.place).constant at name.now value heap.old) }
+    ensures gives { Meets result heap.new (assigned_binding (binding_at (item_at heap.old at.scope) at.place).value (binding_at (item_at heap.old at.scope) at.place).constant at name.now value heap.old) }
     ensures free { IsOk (assigned_binding (binding_at (item_at heap.old at.scope) at.place).value (binding_at (item_at heap.old at.scope) at.place).constant at name.now value heap.old).0 → IsOk result }
 
     ensures grown { Grows heap.old heap.new }
@@ -197,7 +198,7 @@ fn assign_found(
     requires there { IsFound heap.old global name.now found }
     requires value { IsSoundValue heap.old value }
 
-    ensures gives { Gives result heap.new (assigned_found found global name.now value heap.old) }
+    ensures gives { Meets result heap.new (assigned_found found global name.now value heap.old) }
     ensures free { IsOk (assigned_found found global name.now value heap.old).0 → IsOk result }
 
     ensures grown { Grows heap.old heap.new }
@@ -234,7 +235,7 @@ pub fn assign_name(
     requires global { IsAt IsPlain heap.old global }
     requires value { IsSoundValue heap.old value }
 
-    ensures gives { Gives result heap.new (assign_outcome name.now value scope global heap.old) }
+    ensures gives { Meets result heap.new (assign_outcome name.now value scope global heap.old) }
 
     // An assignment that succeeds asks for no memory.
     ensures free { IsOk (assign_outcome name.now value scope global heap.old).0 → IsOk result }

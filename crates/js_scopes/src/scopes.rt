@@ -58,7 +58,7 @@ pub fn copy_scope(alloc: Global, heap: &mut Heap, scope: u32) -> Result<u32, Fai
     make_scope(alloc, heap, parent, bindings)
 }
 
-/// Gives the binding of a name in that very scope its first value (ECMA-262, InitializeBinding); a
+/// Meets the binding of a name in that very scope its first value (ECMA-262, InitializeBinding); a
 /// constant gets its value so too. A scope without such a binding stays as it is. It takes no memory.
 #[tactic(auto, unfolding(crate::specs::Scopes::initialised), using(crate::proofs::Bound::place_within))]
 pub fn initialise(heap: &mut Heap, scope: u32, name: &Units, value: Value)

@@ -3,7 +3,7 @@ ghost use Rattle.std.specs.Prelude.{◌≡◌, IfErr};
 ghost use Rattle.charged_heap.specs.Closed.{IsClosed};
 ghost use Rattle.charged_heap.specs.Growth.{Grows};
 ghost use Rattle.charged_heap.specs.Store.{IsAt, IsPlain, IsScope};
-ghost use Rattle.js_scopes.specs.Ends.{Meets, IsSoundFail};
+ghost use Rattle.charged_heap.specs.Ends.{Meets, IsSoundFail};
 ghost use Rattle.js_scopes.specs.Scripts.{name_declared, names_declared, functions_declared, script_declared};
 ghost use Rattle.js_scopes.specs.Steps.{refused, one_named, function_declared, one_function, all_declared};
 

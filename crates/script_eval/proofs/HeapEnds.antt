@@ -4,7 +4,7 @@ use Rattle.charged_heap.specs.Store.{Store}
 use Rattle.charged_heap.specs.declared.fault.Fail.{Fail}
 use Rattle.charged_heap.specs.declared.fault.Fail.TheVariants as fail
 use Rattle.charged_heap.specs.declared.values.Value.{Value}
-use Rattle.js_ops.specs.Outcome.{Outcome, Gives}
+use Rattle.charged_heap.specs.Ends.{Ends, Meets}
 use Rattle.script_meaning.specs.Outcome.{of_heap}
 use Rattle.script_meaning.specs.Places.{ScriptList}
 use Rattle.script_steps.specs.After.{Steps}
@@ -13,8 +13,8 @@ use Rattle.script_steps.specs.declared.frame.Step.{Step}
 use Rattle.script_steps.specs.declared.frame.Step.TheVariants as step
 
 -- the meaning of the step is what the call means
-pub ends_so : (scripts : ScriptList) (one : Step) (given : Result Value Fail) (old new : Store) (meaning : Store → Outcome)
-    → one ≡ step.Ended (end_of given) → Gives given new (meaning old) → Steps scripts one old new (λ at s. of_heap s (meaning s.heap))
+pub ends_so : (scripts : ScriptList) (one : Step) (given : Result Value Fail) (old new : Store) (meaning : Store → Ends Value)
+    → one ≡ step.Ended (end_of given) → Meets given new (meaning old) → Steps scripts one old new (λ at s. of_heap s (meaning s.heap))
 ends_so scripts one (Ok v) old new meaning is gives = λ found at left.
     let e : meaning old ≡ (Ok v, new) = gives (λ h. cc) in
     rw (is, e) refl

@@ -3,7 +3,8 @@ ghost use Rattle.std.specs.Prelude.{◌≡◌, ◌≢◌, ◌⊎◌, ◌↔◌, 
 ghost use Rattle.std.specs.List.{All};
 ghost use Rattle.charged_heap.specs.Closed.{IsClosed, IsSoundValue};
 ghost use Rattle.charged_heap.specs.Growth.{Grows};
-ghost use Rattle.js_ops.specs.Outcome.{Gives, IsSoundResult, thrown};
+ghost use Rattle.charged_heap.specs.Ends.{Meets, IsSoundResult};
+ghost use Rattle.js_ops.specs.Outcome.{thrown};
 ghost use Rattle.script_meaning.specs.Evaluates.{evaluated, too_deep};
 ghost use Rattle.script_meaning.specs.Functions.{builtin_rule};
 ghost use Rattle.script_steps.specs.After.{Steps, step_out, with_left};
@@ -22,7 +23,7 @@ use std::alloc::Global;
 
 /// Throws the error of a node inside as many others as may be in evaluation at once.
 fn refuse_depth(alloc: Global, heap: &mut Heap) -> Result<Value, Fail>
-    ensures gives { Gives result heap.new (thrown ErrorKind.RangeError (codes "nesting too deep") heap.old) }
+    ensures gives { Meets result heap.new (thrown ErrorKind.RangeError (codes "nesting too deep") heap.old) }
 
     ensures grown { Grows heap.old heap.new }
     ensures closed { IsClosed heap.old → IsClosed heap.new }

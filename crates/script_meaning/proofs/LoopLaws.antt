@@ -4,7 +4,7 @@ use Rattle.charged_heap.specs.Store.{Store}
 use Rattle.charged_heap.specs.declared.values.Value.{Value}
 use Rattle.js_ops.specs.Values.{truthy}
 use Rattle.js_trees.specs.Tree.{Tree}
-use Rattle.js_scopes.specs.Ends.{Ends}
+use Rattle.charged_heap.specs.Ends.{Ends}
 use Rattle.script_meaning.specs.Loops.{Loop, after_body, loop_end, loop_rule, round, round_site, rounds, tested, to_next, turn, updated}
 use Rattle.script_meaning.specs.Outcome.{State, Out, Inside, on_heap, with_value}
 use Rattle.script_meaning.specs.Ticks.{TakesTicks}

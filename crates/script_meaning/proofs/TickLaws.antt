@@ -9,14 +9,14 @@ use Rattle.charged_heap.specs.declared.values.Value.TheVariants as value
 use Rattle.js_syntax.specs.declared.kind.Kind.{Kind}
 use Rattle.js_syntax.specs.declared.kind.Kind.TheVariants as kinds
 use Rattle.js_syntax.specs.Tree.{Trees, nothing, tree}
-use Rattle.js_ops.specs.Outcome.{Outcome, binary_outcome, made, unary_outcome}
+use Rattle.js_ops.specs.Outcome.{binary_outcome, value_made, unary_outcome}
 use Rattle.js_members.specs.Arrays.{pushed}
 use Rattle.js_members.specs.Writes.{write_outcome}
 use Rattle.js_ops.specs.declared.operators.BinaryOperator.{BinaryOperator}
 use Rattle.js_ops.specs.declared.operators.UnaryOperator.{UnaryOperator}
 use Rattle.js_trees.specs.Tree.{Tree, kid}
 use Rattle.js_trees.specs.declared.declaration.Declaration.{Declaration}
-use Rattle.js_scopes.specs.Ends.{Ends}
+use Rattle.charged_heap.specs.Ends.{Ends}
 use Rattle.js_scopes.specs.Lists.{block_scope, call_scope, name_scope}
 use Rattle.script_meaning.specs.Evaluates.{callee_by, evaluated, node_by, statement_by, target_by, too_deep, value_by}
 use Rattle.script_meaning.specs.Expressions.{arguments_rule, array_rule, assign_rule, binary_rule, called_rule, closure_made, comma_rule, computed_for, condition_rule, elements_rule, function_by, function_rule, goes_right, index_rule, item_number, logical_rule, member_for, member_rule, object_rule, properties_rule, step_rule, typeof_by, typeof_rule, unary_rule, update_rule, void_rule}
@@ -225,7 +225,7 @@ m-step n op before scripts at kids site s takes few =
     m-value n _ _ (m-of n s (unary_outcome op old s.heap) few) (λ new s few.
     m-value n _ _ (m-of n s (place_written scripts site p new s.heap) few) (λ v s few. m-done n _ s few))))
 
-m-member-for : (n : ℕ) (for : Role) (base : Value) (k : Key) (s : State) (read : Outcome) → s.left ≤ n → Most n (member_for for base k s read)
+m-member-for : (n : ℕ) (for : Role) (base : Value) (k : Key) (s : State) (read : Ends Value) → s.left ≤ n → Most n (member_for for base k s read)
 unfolding Most
 m-member-for n role.Target base k s read few = few
 m-member-for n role.Callee base k s read few = m-heap n s read _ few (λ v s few. few)

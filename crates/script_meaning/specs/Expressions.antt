@@ -8,7 +8,8 @@ use Rattle.charged_heap.specs.declared.values.Value.TheVariants as value
 use Rattle.js_syntax.specs.declared.kind.Kind.{Kind}
 use Rattle.js_syntax.specs.declared.kind.Kind.TheVariants as kinds
 use Rattle.js_syntax.specs.Tree.{Trees, nothing, tree}
-use Rattle.js_ops.specs.Outcome.{Outcome, made, text_made, binary_outcome, unary_outcome}
+use Rattle.charged_heap.specs.Ends.{Ends}
+use Rattle.js_ops.specs.Outcome.{value_made, text_made, binary_outcome, unary_outcome}
 use Rattle.js_ops.specs.Values.{truthy}
 use Rattle.js_ops.specs.declared.operators.BinaryOperator.{BinaryOperator}
 use Rattle.js_ops.specs.declared.operators.UnaryOperator.{UnaryOperator}
@@ -115,7 +116,7 @@ step_rule op before scripts at kids site s =
 -- ---- members
 
 -- what a member is for its role: a place, or the value that is read there
-abbrev pub member_for : Role → Value → Key → State → Outcome → Out
+abbrev pub member_for : Role → Value → Key → State → Ends Value → Out
 member_for role.Target base k s read = (Ok (ended.Place (place.Member base k)), s)
 member_for role.Callee base k s read = on_heap s read (λ v s. (Ok (ended.Member v base), s))
 member_for role.Value base k s read = of_heap s read
@@ -186,7 +187,7 @@ object_rule at t site s =
     (λ object s. properties_rule at (item_number object) t.head.names t.kids site s)
 
 -- a function of this form, made here; an arrow function keeps `this`
-abbrev pub closure_made : ℕ → Site → Value → Store → Outcome
+abbrev pub closure_made : ℕ → Site → Value → Store → Ends Value
 closure_made node site receiver s =
     made (item.Closure site.script node site.scope site.global receiver) s (λ n heap. (Ok (value.Item n), heap))
 

@@ -11,7 +11,8 @@ use Rattle.charged_heap.specs.declared.values.Value.{Value}
 use Rattle.charged_heap.specs.declared.values.Value.TheVariants as value
 use Rattle.js_syntax.specs.declared.kind.Kind.{Kind}
 use Rattle.js_syntax.specs.declared.kind.Kind.TheVariants as kinds
-use Rattle.js_ops.specs.Outcome.{Outcome, thrown}
+use Rattle.charged_heap.specs.Ends.{Ends}
+use Rattle.js_ops.specs.Outcome.{thrown}
 use Rattle.js_members.specs.Arrays.{push_outcome, pop_outcome}
 use Rattle.js_trees.specs.Tree.{Tree, kid}
 use Rattle.js_trees.specs.Declarations.{declarations}
@@ -25,13 +26,13 @@ use Rattle.script_meaning.specs.declared.site.Site.{Site}
 
 -- ---- what can't be called
 
-abbrev pub no_function : Store → Outcome
+abbrev pub no_function : Store → Ends Value
 no_function s = thrown TypeError (codes "not a function") s
 
 -- ---- built-in functions
 
 -- what a built-in function gives; the others aren't built yet
-abbrev pub builtin_outcome : Builtin → Value → List Value → Store → Outcome
+abbrev pub builtin_outcome : Builtin → Value → List Value → Store → Ends Value
 builtin_outcome builtin.ArrayPush receiver arguments s = push_outcome receiver arguments s
 builtin_outcome builtin.ArrayPop receiver arguments s = pop_outcome receiver s
 builtin_outcome _ receiver arguments s = no_function s

@@ -11,7 +11,7 @@ use Rattle.js_scopes.specs.Scopes.{scope_copied}
 use Rattle.js_trees.specs.Tree.{Tree, kid}
 use Rattle.js_trees.specs.Declarations.{declarations}
 use Rattle.js_trees.specs.declared.declaration.Declaration.{Declaration}
-use Rattle.js_scopes.specs.Ends.{Ends, and_then}
+use Rattle.charged_heap.specs.Ends.{Ends, and_then}
 use Rattle.js_scopes.specs.Lists.{block_scope}
 use Rattle.script_meaning.specs.Outcome.{State, Out, Inside, on_heap, with_value, with_end}
 use Rattle.script_meaning.specs.Statements.{value_in, latest, ended_with, or_undefined}

@@ -8,7 +8,7 @@ use Rattle.charged_heap.specs.declared.values.Value.{Value}
 use Rattle.charged_heap.specs.declared.values.Value.TheVariants as value
 use Rattle.js_syntax.specs.Tree.{Trees}
 use Rattle.js_trees.specs.Tree.{Tree}
-use Rattle.js_scopes.specs.Ends.{Ends}
+use Rattle.charged_heap.specs.Ends.{Ends}
 use Rattle.script_meaning.specs.declared.completion.Abrupt.{Abrupt}
 use Rattle.script_meaning.specs.declared.completion.Abrupt.TheVariants as abrupt
 use Rattle.script_meaning.specs.declared.completion.Ended.{Ended}

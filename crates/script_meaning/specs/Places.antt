@@ -8,7 +8,8 @@ use Rattle.charged_heap.specs.Store.{Store}
 use Rattle.charged_heap.specs.declared.values.Value.{Value}
 use Rattle.charged_heap.specs.declared.values.Value.TheVariants as value
 use Rattle.js_syntax.specs.declared.node.Node.{Node}
-use Rattle.js_ops.specs.Outcome.{Outcome, thrown, unary_outcome}
+use Rattle.charged_heap.specs.Ends.{Ends}
+use Rattle.js_ops.specs.Outcome.{thrown, unary_outcome}
 use Rattle.js_ops.specs.declared.operators.UnaryOperator.TheVariants.{TypeOf}
 use Rattle.js_ops.specs.Values.{string_at}
 use Rattle.js_members.specs.Reads.{read_outcome}
@@ -57,27 +58,27 @@ key_units scripts script s (key.Name n) = name_at scripts script n
 key_units scripts script s (key.Computed v) = unwrap_or (key_of s v) []
 
 -- an operand or a key of a kind that isn't asked for
-abbrev pub wrong_kind : Store → Outcome
+abbrev pub wrong_kind : Store → Ends Value
 wrong_kind s = thrown TypeError (codes "wrong kind of operand") s
 
 -- ---- places
 
 -- what a place reads
-unfoldable pub place_read : ScriptList → Site → Place → Store → Outcome
+unfoldable pub place_read : ScriptList → Site → Place → Store → Ends Value
 place_read scripts site (place.Name n) s = name_outcome (name_at scripts site.script n) site.scope site.global s
 place_read scripts site (place.Member base key) s = read_outcome base (key_units scripts site.script s key) s
 
 -- what a place leaves that takes a value
-unfoldable pub place_written : ScriptList → Site → Place → Value → Store → Outcome
+unfoldable pub place_written : ScriptList → Site → Place → Value → Store → Ends Value
 place_written scripts site (place.Name n) v s = assign_outcome (name_at scripts site.script n) v site.scope site.global s
 place_written scripts site (place.Member base key) v s = write_outcome base (key_units scripts site.script s key) v s
 
 -- the type of a value that was read
-abbrev pub type_read : Outcome → Outcome
+abbrev pub type_read : Ends Value → Ends Value
 type_read (Ok v, s) = unary_outcome TypeOf v s
 type_read (Err failed, s) = (Err failed, s)
 
 -- what `typeof` gives of a place: a name that is nowhere has a type too
-unfoldable pub place_type : ScriptList → Site → Place → Store → Outcome
+unfoldable pub place_type : ScriptList → Site → Place → Store → Ends Value
 place_type scripts site (place.Name n) s = typeof_outcome (name_at scripts site.script n) site.scope site.global s
 place_type scripts site (place.Member base key) s = type_read (read_outcome base (key_units scripts site.script s key) s)

@@ -22,10 +22,10 @@ use Rattle.charged_heap.proofs.GrowthLaws.{at_grows}
 use Rattle.charged_heap.proofs.ClosedLaws.{value_grows}
 use Rattle.js_members.specs.Arrays.{array_number, pushed, pushed_at, push_outcome}
 use Rattle.js_syntax.specs.Tree.{Trees, nothing, tree}
-use Rattle.js_ops.specs.Outcome.{made}
+use Rattle.js_ops.specs.Outcome.{value_made}
 use Rattle.js_trees.specs.Tree.{Tree, kid, kid_count, kids_from}
 use Rattle.js_trees.proofs.PartLemmas.{kids_from-at, kids_from-past}
-use Rattle.js_scopes.specs.Ends.{item_made}
+use Rattle.charged_heap.specs.Ends.{item_made}
 use Rattle.script_meaning.specs.Outcome.{State, Inside, gives}
 use Rattle.script_meaning.specs.Places.{ScriptList, form_at}
 use Rattle.script_meaning.specs.Expressions.{elements_rule, properties_rule, arguments_rule, function_by, function_rule}

@@ -7,7 +7,7 @@ use Rattle.charged_heap.specs.declared.values.Value.{Value}
 use Rattle.js_ops.specs.Values.{truthy}
 use Rattle.js_scopes.specs.Bindings.{bindings_of, parent_of}
 use Rattle.js_scopes.specs.Scopes.{GivesScope, scope_copied}
-use Rattle.js_scopes.specs.Ends.{IsSoundFail}
+use Rattle.charged_heap.specs.Ends.{IsSoundFail}
 use Rattle.js_scopes.proofs.NewScopes.{scope_throws_nothing}
 use Rattle.js_trees.specs.Tree.{Tree}
 use Rattle.script_meaning.specs.Loops.{loop_end, loop_rule, tested, to_next, turn}

@@ -3,7 +3,7 @@ ghost use Rattle.std.specs.Prelude.{◌≡◌, IsErr};
 ghost use Rattle.std.specs.List.{All};
 ghost use Rattle.charged_heap.specs.Closed.{IsClosed, IsSoundValue};
 ghost use Rattle.charged_heap.specs.Growth.{Grows};
-ghost use Rattle.js_ops.specs.Outcome.{Gives, IsSoundResult};
+ghost use Rattle.charged_heap.specs.Ends.{Meets, IsSoundResult};
 ghost use Rattle.script_meaning.specs.Functions.{no_function, builtin_outcome};
 
 use charged_heap::{Builtin, Fail, Heap, Value};
@@ -12,7 +12,7 @@ use std::alloc::Global;
 
 /// Throws the error of a call of what is no function: a new TypeError `not a function`.
 pub(crate) fn refuse_call(alloc: Global, heap: &mut Heap) -> Result<Value, Fail>
-    ensures gives { Gives result heap.new (no_function heap.old) }
+    ensures gives { Meets result heap.new (no_function heap.old) }
     ensures err { IsErr result }
 
     ensures grown { Grows heap.old heap.new }
@@ -38,7 +38,7 @@ pub fn call_builtin(
     requires receiver { IsSoundValue heap.old receiver }
     requires arguments { All (IsSoundValue heap.old) arguments.now }
 
-    ensures gives { Gives result heap.new (builtin_outcome which receiver arguments.now heap.old) }
+    ensures gives { Meets result heap.new (builtin_outcome which receiver arguments.now heap.old) }
 
     ensures grown { Grows heap.old heap.new }
     ensures closed { IsClosed heap.old → IsClosed heap.new }

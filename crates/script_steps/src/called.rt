@@ -5,7 +5,7 @@ ghost use Rattle.charged_heap.specs.Closed.{IsClosed, IsSoundValue};
 ghost use Rattle.charged_heap.specs.Growth.{Grows};
 ghost use Rattle.charged_heap.specs.Store.{Store, IsAt, IsScope, item_at};
 ghost use Rattle.js_trees.specs.Tree.{kid};
-ghost use Rattle.js_scopes.specs.Ends.{IsSoundFail, Meets};
+ghost use Rattle.charged_heap.specs.Ends.{IsSoundFail, Meets};
 ghost use Rattle.js_scopes.specs.Lists.{call_scope};
 ghost use Rattle.script_meaning.specs.Functions.{is_body, is_function, this_of, body_declares, body_rule, enter_rule, item_call, call_rule};
 ghost use Rattle.script_meaning.specs.Places.{form_at};

@@ -1,7 +1,7 @@
 //! Ends of forms, from what calls over the heap give.
 ghost use Rattle.std.specs.Prelude.{◌≡◌};
 ghost use Rattle.charged_heap.specs.Store.{Store};
-ghost use Rattle.js_ops.specs.Outcome.{IsSoundResult};
+ghost use Rattle.charged_heap.specs.Ends.{IsSoundResult};
 ghost use Rattle.script_meaning.specs.Outcome.{abrupt_of};
 ghost use Rattle.script_steps.specs.Ends.{end_of};
 ghost use Rattle.script_steps.specs.Sound.{IsSoundStep};

@@ -2,7 +2,7 @@
 ghost use Rattle.std.specs.Prelude.{◌≡◌, Some};
 ghost use Rattle.charged_heap.specs.Closed.{IsClosed, IsSoundValue};
 ghost use Rattle.charged_heap.specs.Growth.{Grows};
-ghost use Rattle.js_ops.specs.Outcome.{Gives, IsSoundResult};
+ghost use Rattle.charged_heap.specs.Ends.{Meets, IsSoundResult};
 ghost use Rattle.script_meaning.specs.Outcome.{of_heap};
 ghost use Rattle.script_meaning.specs.Expressions.{closure_made, function_by, function_rule};
 ghost use Rattle.script_meaning.specs.Places.{ScriptList, form_at};
@@ -24,7 +24,7 @@ fn make_closure(heap: &mut Heap, node: u32, site: Site, receiver: Value) -> Resu
     requires site { IsSoundSite heap.old site }
     requires receiver { IsSoundValue heap.old receiver }
 
-    ensures gives { Gives result heap.new (closure_made node site receiver heap.old) }
+    ensures gives { Meets result heap.new (closure_made node site receiver heap.old) }
 
     ensures grown { Grows heap.old heap.new }
     ensures closed { IsClosed heap.old → IsClosed heap.new }

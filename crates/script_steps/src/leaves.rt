@@ -2,7 +2,8 @@
 ghost use Rattle.std.specs.Prelude.{◌≡◌, Ok};
 ghost use Rattle.charged_heap.specs.Closed.{IsClosed};
 ghost use Rattle.charged_heap.specs.Growth.{Grows};
-ghost use Rattle.js_ops.specs.Outcome.{Gives, IsSoundResult, text_made};
+ghost use Rattle.charged_heap.specs.Ends.{Meets, IsSoundResult};
+ghost use Rattle.js_ops.specs.Outcome.{text_made};
 ghost use Rattle.script_meaning.specs.Evaluates.{value_by};
 ghost use Rattle.script_meaning.specs.Places.{form_at, name_at};
 ghost use Rattle.script_steps.specs.After.{Steps};
@@ -34,7 +35,7 @@ fn make_literal(
     script: u32,
     node: u32,
 ) -> Result<Value, Fail>
-    ensures gives { Gives result heap.new (text_made (name_at scripts.now script node) heap.old) }
+    ensures gives { Meets result heap.new (text_made (name_at scripts.now script node) heap.old) }
     ensures grown { Grows heap.old heap.new }
     ensures closed { IsClosed heap.old → IsClosed heap.new }
     ensures sound { IsSoundResult heap.new result }

@@ -3,11 +3,10 @@ ghost use Rattle.std.specs.Prelude.{◌≡◌, suc, min, length, [], ◌∷◌, 
 ghost use Rattle.charged_heap.specs.Closed.{IsClosed, IsSoundValue};
 ghost use Rattle.charged_heap.specs.Growth.{Grows};
 ghost use Rattle.charged_heap.specs.Store.{Store, IsAt, IsArray, IsPlain};
-ghost use Rattle.js_ops.specs.Outcome.{Gives, IsSoundResult};
 ghost use Rattle.js_members.specs.Arrays.{pushed};
 ghost use Rattle.js_members.specs.Writes.{write_outcome};
 ghost use Rattle.js_trees.specs.Tree.{kid_count, kids_from};
-ghost use Rattle.js_scopes.specs.Ends.{IsSoundFail, Meets, item_made};
+ghost use Rattle.charged_heap.specs.Ends.{IsSoundFail, Meets, item_made, IsSoundResult};
 ghost use Rattle.script_meaning.specs.Expressions.{array_rule, elements_rule, object_rule, properties_rule};
 ghost use Rattle.script_meaning.specs.Places.{form_at};
 ghost use Rattle.script_steps.specs.After.{after, Steps, Waits};
@@ -61,7 +60,7 @@ fn add_element(alloc: Global, heap: &mut Heap, array: u32, value: Value) -> Resu
     requires array { IsAt IsArray heap.old array }
     requires value { IsSoundValue heap.old value }
 
-    ensures gives { Gives result heap.new (pushed array (value ∷ []) heap.old) }
+    ensures gives { Meets result heap.new (pushed array (value ∷ []) heap.old) }
 
     ensures grown { Grows heap.old heap.new }
     ensures closed { IsClosed heap.old → IsClosed heap.new }
@@ -180,7 +179,7 @@ fn properties_behind(scripts: &Scripts, node: u32, place: u32, object: u32, site
     Step::Ended(Ok(Ended::Value(Value::Item(object))))
 }
 
-/// Gives an object the property whose name stands at this place.
+/// Meets an object the property whose name stands at this place.
 #[tactic(auto, using(crate::proofs::CallLemmas::name_there, crate::proofs::CallLemmas::name_missing, crate::proofs::CallLemmas::plain_held))]
 fn add_property(
     alloc: Global,
@@ -193,7 +192,7 @@ fn add_property(
     requires object { IsAt IsPlain heap.old object }
     requires value { IsSoundValue heap.old value }
 
-    ensures gives { Gives result heap.new (write_outcome (Value.Item object) (slice_index_or names.now place []) value heap.old) }
+    ensures gives { Meets result heap.new (write_outcome (Value.Item object) (slice_index_or names.now place []) value heap.old) }
 
     ensures grown { Grows heap.old heap.new }
     ensures closed { IsClosed heap.old → IsClosed heap.new }
@@ -205,7 +204,7 @@ fn add_property(
     }
 }
 
-/// Gives an object a property, and goes on with the next.
+/// Meets an object a property, and goes on with the next.
 #[tactic(auto, unfolding(crate::specs::After::after), using(crate::proofs::CallLemmas::site_grows))]
 pub(crate) fn property(
     alloc: Global,

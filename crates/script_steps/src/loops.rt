@@ -5,7 +5,7 @@ ghost use Rattle.charged_heap.specs.Growth.{Grows};
 ghost use Rattle.charged_heap.specs.Store.{IsAt, IsScope, Store};
 ghost use Rattle.js_scopes.specs.Scopes.{scope_copied};
 ghost use Rattle.js_trees.specs.Tree.{kid};
-ghost use Rattle.js_scopes.specs.Ends.{IsSoundFail, Meets};
+ghost use Rattle.charged_heap.specs.Ends.{IsSoundFail, Meets};
 ghost use Rattle.script_meaning.specs.Loops.{first_round, for_loop, for_rule, headed, is_fresh, loop_rule, part, round_site, to_next, while_rule};
 ghost use Rattle.script_meaning.specs.Places.{form_at};
 ghost use Rattle.script_meaning.specs.Statements.{ended_with, or_undefined};

@@ -3,7 +3,7 @@ ghost use Rattle.std.specs.Prelude.{◌≡◌, [], IfOk, is_some};
 ghost use Rattle.std.specs.Option.{unwrap_or};
 ghost use Rattle.charged_heap.specs.Closed.{IsClosed, IsSoundValue};
 ghost use Rattle.charged_heap.specs.Growth.{Grows};
-ghost use Rattle.js_ops.specs.Outcome.{Gives, IsSoundResult};
+ghost use Rattle.charged_heap.specs.Ends.{Meets, IsSoundResult};
 ghost use Rattle.js_ops.specs.Values.{units_in};
 ghost use Rattle.js_members.specs.Reads.{read_outcome};
 ghost use Rattle.js_members.specs.Writes.{write_outcome};
@@ -80,7 +80,7 @@ fn computed_units(alloc: Global, heap: &Heap, value: Value) -> Result<Units, NoM
 
 /// Throws the error of a key that is neither a string nor a number.
 pub(crate) fn refuse_key(alloc: Global, heap: &mut Heap) -> Result<Value, Fail>
-    ensures gives { Gives result heap.new (wrong_kind heap.old) }
+    ensures gives { Meets result heap.new (wrong_kind heap.old) }
 
     ensures grown { Grows heap.old heap.new }
     ensures closed { IsClosed heap.old → IsClosed heap.new }
@@ -102,7 +102,7 @@ pub(crate) fn read_named(
     base: Value,
 ) -> Result<Value, Fail>
     requires { IsSoundValue heap.old base }
-    ensures gives { Gives result heap.new (read_outcome base (name_at scripts.now script node) heap.old) }
+    ensures gives { Meets result heap.new (read_outcome base (name_at scripts.now script node) heap.old) }
 
     ensures grown { Grows heap.old heap.new }
     ensures closed { IsClosed heap.old → IsClosed heap.new }
@@ -121,7 +121,7 @@ pub(crate) fn read_computed(
 ) -> Result<Value, Fail>
     requires base { IsSoundValue heap.old base }
     requires key { IsSoundValue heap.old key }
-    ensures gives { Gives result heap.new (read_outcome base (unwrap_or (key_of heap.old key) []) heap.old) }
+    ensures gives { Meets result heap.new (read_outcome base (unwrap_or (key_of heap.old key) []) heap.old) }
 
     ensures grown { Grows heap.old heap.new }
     ensures closed { IsClosed heap.old → IsClosed heap.new }
@@ -142,7 +142,7 @@ fn read_member(
 ) -> Result<Value, Fail>
     requires base { IsSoundValue heap.old base }
     requires key { IsSoundKey heap.old key }
-    ensures gives { Gives result heap.new (read_outcome base (key_units scripts.now script heap.old key) heap.old) }
+    ensures gives { Meets result heap.new (read_outcome base (key_units scripts.now script heap.old key) heap.old) }
 
     ensures grown { Grows heap.old heap.new }
     ensures closed { IsClosed heap.old → IsClosed heap.new }
@@ -167,7 +167,7 @@ fn write_member(
     requires base { IsSoundValue heap.old base }
     requires key { IsSoundKey heap.old key }
     requires value { IsSoundValue heap.old value }
-    ensures gives { Gives result heap.new (write_outcome base (key_units scripts.now script heap.old key) value heap.old) }
+    ensures gives { Meets result heap.new (write_outcome base (key_units scripts.now script heap.old key) value heap.old) }
 
     ensures grown { Grows heap.old heap.new }
     ensures closed { IsClosed heap.old → IsClosed heap.new }
@@ -200,7 +200,7 @@ pub(crate) fn read_place(
     requires heap { IsClosed heap.old }
     requires site { IsSoundSite heap.old site }
     requires place { IsSoundPlace heap.old place }
-    ensures gives { Gives result heap.new (place_read scripts.now site place heap.old) }
+    ensures gives { Meets result heap.new (place_read scripts.now site place heap.old) }
 
     ensures grown { Grows heap.old heap.new }
     ensures closed { IsClosed heap.new }
@@ -216,7 +216,7 @@ pub(crate) fn read_place(
     }
 }
 
-/// Gives a place a value (ECMA-262, PutValue), which is what it gives then.
+/// Meets a place a value (ECMA-262, PutValue), which is what it gives then.
 #[tactic(auto, unfolding(script_meaning::specs::Places::place_written))]
 pub(crate) fn write_place(
     alloc: Global,
@@ -230,7 +230,7 @@ pub(crate) fn write_place(
     requires site { IsSoundSite heap.old site }
     requires place { IsSoundPlace heap.old place }
     requires value { IsSoundValue heap.old value }
-    ensures gives { Gives result heap.new (place_written scripts.now site place value heap.old) }
+    ensures gives { Meets result heap.new (place_written scripts.now site place value heap.old) }
 
     ensures grown { Grows heap.old heap.new }
     ensures closed { IsClosed heap.new }
@@ -260,7 +260,7 @@ fn type_of_member(
     requires heap { IsClosed heap.old }
     requires base { IsSoundValue heap.old base }
     requires key { IsSoundKey heap.old key }
-    ensures gives { Gives result heap.new (type_read (read_outcome base (key_units scripts.now script heap.old key) heap.old)) }
+    ensures gives { Meets result heap.new (type_read (read_outcome base (key_units scripts.now script heap.old key) heap.old)) }
 
     ensures grown { Grows heap.old heap.new }
     ensures closed { IsClosed heap.new }
@@ -282,7 +282,7 @@ pub(crate) fn type_of_place(
     requires heap { IsClosed heap.old }
     requires site { IsSoundSite heap.old site }
     requires place { IsSoundPlace heap.old place }
-    ensures gives { Gives result heap.new (place_type scripts.now site place heap.old) }
+    ensures gives { Meets result heap.new (place_type scripts.now site place heap.old) }
 
     ensures grown { Grows heap.old heap.new }
     ensures closed { IsClosed heap.new }
