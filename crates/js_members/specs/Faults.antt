@@ -4,6 +4,7 @@ use Rattle.std.specs.Prelude.{ℕ, List, codes}
 use Rattle.ivm_text.specs.declared.copies.ErrorKind.{ErrorKind}
 use Rattle.ivm_text.specs.declared.copies.ErrorKind.TheVariants.{TypeError, RangeError}
 use Rattle.charged_heap.specs.Store.{Store}
+use Rattle.charged_heap.specs.declared.values.Value.{Value}
 use Rattle.charged_heap.specs.Ends.{Ends}
 use Rattle.js_ops.specs.Outcome.{thrown}
 use Rattle.js_members.specs.declared.fault.MemberFault.{MemberFault}

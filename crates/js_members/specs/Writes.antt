@@ -1,11 +1,12 @@
 -- What a write to a member leaves.
 -- ECMA-262, PutValue, without prototypes; docs/SCRIPTS.md, "Members". Cells: docs/PRICES.md, "Cells".
-use Rattle.std.specs.Prelude.{ℕ, ◌+◌, ◌<◌, min, List, [], ◌∷◌, ◌++◌, length, Option, Some, None, Ok, Err, is_some, nat_eq, nat_le, nat_lt, if◌then◌else◌}
+use Rattle.std.specs.Prelude.{ℕ, ◌+◌, ◌<◌, List, [], ◌∷◌, ◌++◌, length, Option, Some, None, Ok, Err, is_some, nat_eq, nat_le, nat_lt, if◌then◌else◌}
 use Rattle.ivm_text.specs.Keys.{value_at}
 use Rattle.ivm_text.specs.KeyOrder.{index_of}
 use Rattle.charged_heap.specs.Price.{charge_of, property_price}
+use Rattle.charged_heap.specs.Room.{overrun_of}
 use Rattle.charged_heap.specs.Store.{Store, IsAt, IsPlain, IsArray, item_at, properties, elements, with_item, with_property, with_place, with_elements}
-use Rattle.charged_heap.specs.declared.price.TheConstants.{ELEMENT_CELLS, GREATEST_TOLD}
+use Rattle.charged_heap.specs.declared.price.TheConstants.{ELEMENT_CELLS}
 use Rattle.charged_heap.specs.declared.fault.Fail.TheVariants.{Over}
 use Rattle.charged_heap.specs.declared.item.Item.{Item}
 use Rattle.charged_heap.specs.declared.item.Item.TheVariants as item
@@ -45,7 +46,7 @@ target_of s _ key = Refused NotWritable
 abbrev pub charged : ℕ → Store → Ends Value → Ends Value
 charged asked s rest =
     if nat_le (charge_of s.items + asked) s.limit then rest
-    else (Err (Over (charge_of s.items) (min asked GREATEST_TOLD) s.limit), s)
+    else (Err (Over (overrun_of s asked)), s)
 
 -- a property costs its price where the object doesn't have the key, and else nothing
 abbrev pub price_at : Item → List ℕ → ℕ

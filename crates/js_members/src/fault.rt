@@ -57,6 +57,6 @@ pub(crate) fn refuse(alloc: Global, heap: &mut Heap, fault: MemberFault) -> Resu
     ensures closed { IsClosed heap.old → IsClosed heap.new }
     ensures sound { IsSoundResult heap.new result }
 {
-    let message = Units::from_latin1(alloc, fault.message()).map_err(|_| Fail::NoMemory)?;
+    let message = Units::from_latin1(alloc, fault.message())?;
     throw(heap, fault.kind(), message)
 }

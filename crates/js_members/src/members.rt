@@ -10,9 +10,8 @@ use crate::fault::refuse;
 use crate::reading::reading_of;
 use crate::target::target_of;
 use crate::{Reading, Target};
-use charged_heap::{Fail, Heap, Value};
+use charged_heap::{Fail, Heap, Item, Value, make};
 use ivm_text::Units;
-use js_ops::make_text;
 use std::alloc::Global;
 
 /// Carries a reading out: makes its string, or its error and throws it.
@@ -25,7 +24,7 @@ fn carry_out(alloc: Global, heap: &mut Heap, reading: Reading) -> Result<Value, 
 {
     match reading {
         Reading::Held(value) => Ok(value),
-        Reading::Made(units) => make_text(heap, units),
+        Reading::Made(units) => Ok(Value::Item(make(heap, Item::Text(units))?)),
         Reading::Fault(fault) => refuse(alloc, heap, fault),
     }
 }
@@ -47,7 +46,7 @@ pub fn read(alloc: Global, heap: &mut Heap, base: Value, key: &Units) -> Result<
     ensures closed { IsClosed heap.old → IsClosed heap.new }
     ensures sound { IsClosed heap.old → IsSoundResult heap.new result }
 {
-    let reading = reading_of(alloc, heap, base, key).map_err(|_| Fail::NoMemory)?;
+    let reading = reading_of(alloc, heap, base, key)?;
     carry_out(alloc, heap, reading)
 }
 

@@ -19,7 +19,7 @@ mod values;
 
 pub use answer::{Answer, OperandFault};
 pub use charged_heap::Fail;
-pub use making::{make_text, throw};
+pub use making::throw;
 pub use operations::{binary, unary};
 pub use operators::{Arithmetic, BinaryOperator, Comparison, UnaryOperator};
 pub use values::{same, truthy, type_of};

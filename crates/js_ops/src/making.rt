@@ -1,25 +1,12 @@
-//! Strings and errors made in the heap.
+//! Errors made in the heap and thrown.
 ghost use Rattle.std.specs.Prelude.{◌≡◌, IsErr};
 ghost use Rattle.charged_heap.specs.Closed.{IsClosed};
 ghost use Rattle.charged_heap.specs.Growth.{Grows};
 ghost use Rattle.charged_heap.specs.Ends.{Meets, IsSoundResult};
-ghost use Rattle.js_ops.specs.Outcome.{text_made, thrown};
+ghost use Rattle.js_ops.specs.Outcome.{thrown};
 
 use charged_heap::{Fail, Heap, Item, Value, make};
 use ivm_text::{ErrorKind, Units};
-
-/// Makes a new string of these units.
-///
-/// `Over` comes exactly where its cells don't fit; then the heap is as it was. `NoMemory` may come.
-pub fn make_text(heap: &mut Heap, units: Units) -> Result<Value, Fail>
-    ensures gives { Meets result heap.new (text_made units heap.old) }
-
-    ensures grown { Grows heap.old heap.new }
-    ensures closed { IsClosed heap.old → IsClosed heap.new }
-    ensures sound { IsSoundResult heap.new result }
-{
-    Ok(Value::Item(make(heap, Item::Text(units))?))
-}
 
 /// Throws a new error: its message is made first, and then the error, each with its own charge.
 ///

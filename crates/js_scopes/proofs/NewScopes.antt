@@ -1,20 +1,22 @@
 -- What a new scope holds is sound, and making a scope throws nothing.
 use Rattle.std.proofs.Common.{◌≡◌, ℕ, Bool, true, false, List, [], ◌∷◌, ◌++◌, Option, Result, Ok, Err, length, ap, arith}
-use Rattle.std.specs.Prelude.{◌+◌, min, is_some, nat_le, IfErr, if◌then◌else◌}
+use Rattle.std.specs.Prelude.{◌+◌, is_some, nat_le, IfErr, if◌then◌else◌}
 use Rattle.std.specs.List.{All}
 use Rattle.std.proofs.lemmas.List.Elements.{All-append, All-cons}
 use Rattle.charged_heap.specs.Price.{charge_of, price_of}
+use Rattle.charged_heap.specs.Room.{overrun_of}
 use Rattle.charged_heap.specs.Store.{Store, with_more}
 use Rattle.charged_heap.specs.Closed.{IsSoundBinding}
-use Rattle.charged_heap.specs.declared.price.TheConstants.{GREATEST_TOLD}
 use Rattle.charged_heap.specs.declared.fault.Fail.{Fail}
 use Rattle.charged_heap.specs.declared.fault.Fail.TheVariants.{Throw, Over, NoMemory}
+use Rattle.charged_heap.specs.declared.item.Item.{Item}
 use Rattle.charged_heap.specs.declared.values.Binding.{Binding}
+use Rattle.charged_heap.specs.declared.values.Value.{Value}
 use Rattle.js_scopes.specs.Bindings.{place_of, new_binding, with_new}
-use Rattle.js_scopes.specs.Scopes.{scope_made, scope_with, ScopeOutcome}
+use Rattle.js_scopes.specs.Scopes.{scope_made, scope_with}
 use Rattle.js_trees.specs.declared.declaration.Declaration.{Declaration}
 use Rattle.js_trees.specs.declared.declaration.Declaration.TheVariants.{Variable, Constant, Function}
-use Rattle.charged_heap.specs.Ends.{Meets, IsSoundFail}
+use Rattle.charged_heap.specs.Ends.{Ends, Meets, IsSoundFail, item_made}
 use Rattle.js_scopes.specs.Lists.{with_parameters, with_declared}
 
 -- ---- names without values
@@ -58,20 +60,20 @@ binding_sound s name constant = new_sound s [] name constant (none_sound s)
 
 -- ---- failures
 
--- a scope is made, or it is refused or finds no memory
+-- one more item is made, or it is refused or finds no memory
+item_throws_nothing : (one : Item) (s t : Store) (v : Value) → ◌≡◌ {A = Ends ℕ} (item_made one s) (Err (Throw v), t) → ⊥
+item_throws_nothing one s t v e = by (nat_le (charge_of s.items + price_of one) s.limit) e
+  where
+    by : (fits : Bool) → ◌≡◌ {A = Ends ℕ} (if fits then (Ok (length s.items), with_more s one)
+        else (Err (Over (overrun_of s (price_of one))), s)) (Err (Throw v), t) → ⊥
+    by true e = let made : ◌≡◌ {A = Result ℕ Fail} (Ok (length s.items)) (Err (Throw v)) = ap (λ (p : Ends ℕ). p.0) e in cc
+    by false e = let refused : ◌≡◌ {A = Result ℕ Fail} (Err (Over (overrun_of s (price_of one)))) (Err (Throw v)) = ap (λ (p : Ends ℕ). p.0) e in cc
+
+-- so is a scope
 pub scope_throws_nothing : (parent : Option ℕ) (bindings : List Binding) (s t : Store) (result : Result ℕ Fail)
     → Meets result t (scope_made parent bindings s) → IfErr result (IsSoundFail t)
 unfolding scope_made
 scope_throws_nothing parent bindings s t (Ok n) meets = tt
-scope_throws_nothing parent bindings s t (Err (Over charged asked limit)) meets = tt
+scope_throws_nothing parent bindings s t (Err (Over told)) meets = tt
 scope_throws_nothing parent bindings s t (Err NoMemory) meets = tt
-scope_throws_nothing parent bindings s t (Err (Throw v)) meets =
-    absurd (by (nat_le (charge_of s.items + price_of (scope_with parent bindings)) s.limit) (meets (λ e. cc)))
-  where
-    by : (fits : Bool) → ◌≡◌ {A = ScopeOutcome} (if fits then (Ok (length s.items), with_more s (scope_with parent bindings))
-        else (Err (Over (charge_of s.items) (min (price_of (scope_with parent bindings)) GREATEST_TOLD) s.limit), s)) (Err (Throw v), t) → ⊥
-    by true e = let made : ◌≡◌ {A = Result ℕ Fail} (Ok (length s.items)) (Err (Throw v)) = ap (λ (p : ScopeOutcome). p.0) e in cc
-    by false e =
-        let refused : ◌≡◌ {A = Result ℕ Fail} (Err (Over (charge_of s.items) (min (price_of (scope_with parent bindings)) GREATEST_TOLD) s.limit)) (Err (Throw v))
-        = ap (λ (p : ScopeOutcome). p.0) e in
-        cc
+scope_throws_nothing parent bindings s t (Err (Throw v)) meets = absurd (item_throws_nothing (scope_with parent bindings) s t v (meets (λ e. cc)))

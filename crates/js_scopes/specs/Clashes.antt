@@ -3,6 +3,7 @@
 use Rattle.std.specs.Prelude.{ℕ, List, Bool, true, false, ◌||◌, is_some}
 use Rattle.charged_heap.specs.Store.{Store, item_at, is_noted}
 use Rattle.charged_heap.specs.declared.item.Item.{Item}
+use Rattle.charged_heap.specs.declared.values.Value.{Value}
 use Rattle.charged_heap.specs.Ends.{Ends}
 use Rattle.js_scopes.specs.Bindings.{bindings_of, functions_of, place_of}
 use Rattle.js_scopes.specs.Faults.{fault_thrown}

@@ -1,11 +1,8 @@
 -- How scopes are made, and how their names get their first values.
 -- ECMA-262, NewDeclarativeEnvironment, CreatePerIterationEnvironment and InitializeBinding; docs/SCRIPTS.md, "Names and scopes". Cells: docs/PRICES.md, "Cells".
-use Rattle.std.specs.Prelude.{◌≡◌, ◌≢◌, ℕ, ◌+◌, min, List, [], length, Option, Some, None, Result, Ok, Err, nat_le, if◌then◌else◌}
-use Rattle.charged_heap.specs.Price.{price_of, charge_of}
-use Rattle.charged_heap.specs.Store.{Store, item_at, with_more}
-use Rattle.charged_heap.specs.declared.price.TheConstants.{GREATEST_TOLD}
-use Rattle.charged_heap.specs.declared.fault.Fail.{Fail}
-use Rattle.charged_heap.specs.declared.fault.Fail.TheVariants.{Over, NoMemory}
+use Rattle.std.specs.Prelude.{ℕ, List, [], Option, Some, None}
+use Rattle.charged_heap.specs.Store.{Store, item_at}
+use Rattle.charged_heap.specs.Ends.{Ends, item_made}
 use Rattle.charged_heap.specs.declared.item.Item.{Item}
 use Rattle.charged_heap.specs.declared.item.Item.TheVariants.{Scope}
 use Rattle.charged_heap.specs.declared.values.Binding.{Binding}
@@ -19,23 +16,12 @@ use Rattle.js_scopes.specs.Names.{with_bound_at}
 abbrev pub scope_with : Option ℕ → List Binding → Item
 scope_with parent bindings = Scope parent bindings []
 
--- the number of a new scope or a refusal, and the store after it
-abbrev pub ScopeOutcome : Type 0
-ScopeOutcome = Result ℕ Fail × Store
-
 -- one more scope, with all its bindings in one charge; where it doesn't fit, the refusal alone
-unfoldable pub scope_made : Option ℕ → List Binding → Store → ScopeOutcome
-scope_made parent bindings s =
-    if nat_le (charge_of s.items + price_of (scope_with parent bindings)) s.limit
-    then (Ok (length s.items), with_more s (scope_with parent bindings))
-    else (Err (Over (charge_of s.items) (min (price_of (scope_with parent bindings)) GREATEST_TOLD) s.limit), s)
-
--- the result and the store are those of the meaning, unless no memory was found
-abbrev pub GivesScope : Result ℕ Fail → Store → ScopeOutcome → Type 0
-GivesScope result new meaning = result ≢ Err NoMemory → meaning ≡ (result, new)
+unfoldable pub scope_made : Option ℕ → List Binding → Store → Ends ℕ
+scope_made parent bindings s = item_made (scope_with parent bindings) s
 
 -- one more scope with the parent and the bindings that the scope with the number n has by then
-unfoldable pub scope_copied : ℕ → Store → ScopeOutcome
+unfoldable pub scope_copied : ℕ → Store → Ends ℕ
 scope_copied n s = scope_made (parent_of (item_at s n)) (bindings_of (item_at s n)) s
 
 -- ---- first values

@@ -1,9 +1,10 @@
 -- What is looked at and declared before a script runs.
 -- ECMA-262, GlobalDeclarationInstantiation; docs/SCRIPTS.md, "Names and scopes".
-use Rattle.std.specs.Prelude.{ℕ, ◌+◌, min, List, [], ◌∷◌, Option, Some, None, Ok, Err, Bool, true, false, nat_le, if◌then◌else◌}
+use Rattle.std.specs.Prelude.{ℕ, ◌+◌, List, [], ◌∷◌, Option, Some, None, Ok, Err, Bool, true, false, nat_le, if◌then◌else◌}
 use Rattle.charged_heap.specs.Price.{charge_of}
+use Rattle.charged_heap.specs.Room.{overrun_of}
 use Rattle.charged_heap.specs.Store.{Store, item_at, with_item, with_binding, with_function}
-use Rattle.charged_heap.specs.declared.price.TheConstants.{BINDING_CELLS, GREATEST_TOLD}
+use Rattle.charged_heap.specs.declared.price.TheConstants.{BINDING_CELLS}
 use Rattle.charged_heap.specs.declared.fault.Fail.TheVariants.{Over}
 use Rattle.charged_heap.specs.declared.values.Value.TheVariants as value
 use Rattle.js_members.specs.Writes.{write_outcome}
@@ -30,7 +31,7 @@ abbrev pub name_declared : List ℕ → Bool → ℕ → Store → Ends (Unit {0
 name_declared name constant names s =
     if nat_le (charge_of s.items + BINDING_CELLS) s.limit
     then (Ok tt, with_item s names (with_binding (item_at s names) (new_binding name constant)))
-    else (Err (Over (charge_of s.items) (min BINDING_CELLS GREATEST_TOLD) s.limit), s)
+    else (Err (Over (overrun_of s BINDING_CELLS)), s)
 
 -- the record notes a function's name
 abbrev pub noted : List ℕ → ℕ → Store → Store

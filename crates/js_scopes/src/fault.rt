@@ -70,6 +70,6 @@ pub(crate) fn refuse(
     ensures closed { IsClosed heap.old → IsClosed heap.new }
     ensures sound { IsSoundResult heap.new result }
 {
-    let message = message(alloc, fault, name).map_err(|_| Fail::NoMemory)?;
+    let message = message(alloc, fault, name)?;
     throw(heap, fault.kind(), message)
 }

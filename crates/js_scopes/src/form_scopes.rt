@@ -34,7 +34,7 @@ fn make_inside(
     ensures scope { IfOk result (IsAt IsScope heap.new) }
     ensures thrown { IfErr result (IsSoundFail heap.new) }
 {
-    let bindings = new_bindings(alloc, parameters, declared).map_err(|_| Fail::NoMemory)?;
+    let bindings = new_bindings(alloc, parameters, declared)?;
     make_scope(alloc, heap, Some(parent), bindings)
 }
 
@@ -68,7 +68,7 @@ pub fn block_scope(
     make_functions(heap, script, global, scope, declared)
 }
 
-/// Meets parameters their arguments in order, and undefined where there are no more.
+/// Gives parameters their arguments in order, and undefined where there are no more.
 fn give_arguments(heap: &mut Heap, scope: u32, parameters: &[Units], arguments: &[Value])
     requires scope { IsAt IsScope heap.old scope }
     requires arguments { All (IsSoundValue heap.old) arguments.now }
@@ -139,7 +139,7 @@ fn one_name(
     ensures thrown { IfErr result (IsSoundFail heap.new) }
 {
     let mut bindings = Bindings::new(alloc);
-    add_binding(alloc, &mut bindings, name, constant).map_err(|_| Fail::NoMemory)?;
+    add_binding(alloc, &mut bindings, name, constant)?;
     make_scope(alloc, heap, Some(parent), bindings)
 }
 

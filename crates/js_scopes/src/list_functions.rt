@@ -9,7 +9,7 @@ ghost use Rattle.js_scopes.specs.Lists.{function_item, functions_made};
 ghost use Rattle.js_scopes.specs.Steps.{function_made};
 
 use crate::initialise;
-use charged_heap::{Fail, Heap, Item, Value};
+use charged_heap::{Fail, Heap, Item, Value, make};
 use js_trees::{Declaration, Declarations};
 
 /// Makes a function that is no arrow, and gives its number.
@@ -30,14 +30,14 @@ pub(crate) fn make_function(
     ensures function { IfOk result (λ n. IsSoundValue heap.new (value.Item n)) }
     ensures thrown { IfErr result (IsSoundFail heap.new) }
 {
-    let number = heap.add(Item::Closure {
+    let function = Item::Closure {
         script,
         node,
         scope,
         global,
         receiver: Value::Undefined,
-    })?;
-    Ok(number)
+    };
+    make(heap, function)
 }
 
 /// Makes the function of one declaration, if it is that of a function, as the value of its name.

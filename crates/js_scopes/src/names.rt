@@ -12,9 +12,9 @@ ghost use Rattle.js_scopes.specs.Names.{or_dead_zone, value_found, name_outcome,
 
 use crate::fault::refuse;
 use crate::{BindingPlace, Lookup, NameFault, look_up};
-use charged_heap::{Binding, Fail, Heap, Item, Value};
+use charged_heap::{Binding, Fail, Heap, Item, Value, make};
 use ivm_text::Units;
-use js_ops::{UnaryOperator, make_text, unary};
+use js_ops::{UnaryOperator, unary};
 use std::alloc::Global;
 
 /// The binding at a place.
@@ -105,8 +105,8 @@ fn make_undefined(alloc: Global, heap: &mut Heap) -> Result<Value, Fail>
     ensures closed { IsClosed heap.old → IsClosed heap.new }
     ensures sound { IsSoundResult heap.new result }
 {
-    let text = Units::from_latin1(alloc, b"undefined").map_err(|_| Fail::NoMemory)?;
-    make_text(heap, text)
+    let text = Units::from_latin1(alloc, b"undefined")?;
+    Ok(Value::Item(make(heap, Item::Text(text))?))
 }
 
 /// Applies the operator `typeof` to a name (ECMA-262, The typeof Operator), read as by `read_name`.

@@ -2,12 +2,13 @@
 ghost use Rattle.std.specs.Prelude.{◌≡◌, IfOk, IfSome};
 ghost use Rattle.std.specs.List.{All};
 ghost use Rattle.charged_heap.specs.Closed.{IsClosed, IsSoundBinding, IsSoundValue};
+ghost use Rattle.charged_heap.specs.Ends.{Meets};
 ghost use Rattle.charged_heap.specs.Growth.{Grows};
 ghost use Rattle.charged_heap.specs.Store.{IsAt, IsScope};
-ghost use Rattle.js_scopes.specs.Scopes.{scope_made, scope_copied, GivesScope, initialised};
+ghost use Rattle.js_scopes.specs.Scopes.{scope_made, scope_copied, initialised};
 
 use crate::bindings::{copy_bindings, parent_of, place_in};
-use charged_heap::{Bindings, Fail, Heap, Item, Names, Value};
+use charged_heap::{Bindings, Fail, Heap, Item, Names, Value, make};
 use ivm_text::Units;
 use std::alloc::Global;
 
@@ -25,18 +26,18 @@ pub fn make_scope(
 ) -> Result<u32, Fail>
     requires { IfSome parent (IsAt IsScope heap.old) }
 
-    ensures gives { GivesScope result heap.new (scope_made parent bindings heap.old) }
+    ensures gives { Meets result heap.new (scope_made parent bindings heap.old) }
 
     ensures grown { Grows heap.old heap.new }
     ensures closed { IsClosed heap.old → All (IsSoundBinding heap.old) bindings → IsClosed heap.new }
     ensures scope { IfOk result (IsAt IsScope heap.new) }
 {
-    let number = heap.add(Item::Scope {
+    let scope = Item::Scope {
         parent,
         bindings,
         functions: Names::new(alloc),
-    })?;
-    Ok(number)
+    };
+    make(heap, scope)
 }
 
 /// Makes a copy of a scope (ECMA-262, CreatePerIterationEnvironment): inside the same one, and with the
@@ -46,7 +47,7 @@ pub fn copy_scope(alloc: Global, heap: &mut Heap, scope: u32) -> Result<u32, Fai
     requires closed { IsClosed heap.old }
     requires scope { IsAt IsScope heap.old scope }
 
-    ensures gives { GivesScope result heap.new (scope_copied scope heap.old) }
+    ensures gives { Meets result heap.new (scope_copied scope heap.old) }
 
     ensures grown { Grows heap.old heap.new }
     ensures closed { IsClosed heap.new }
@@ -54,11 +55,11 @@ pub fn copy_scope(alloc: Global, heap: &mut Heap, scope: u32) -> Result<u32, Fai
 {
     let item = heap.get(scope);
     let parent = parent_of(item);
-    let bindings = copy_bindings(alloc, item).map_err(|_| Fail::NoMemory)?;
+    let bindings = copy_bindings(alloc, item)?;
     make_scope(alloc, heap, parent, bindings)
 }
 
-/// Meets the binding of a name in that very scope its first value (ECMA-262, InitializeBinding); a
+/// Gives the binding of a name in that very scope its first value (ECMA-262, InitializeBinding); a
 /// constant gets its value so too. A scope without such a binding stays as it is. It takes no memory.
 #[tactic(auto, unfolding(crate::specs::Scopes::initialised), using(crate::proofs::Bound::place_within))]
 pub fn initialise(heap: &mut Heap, scope: u32, name: &Units, value: Value)

@@ -21,7 +21,7 @@ ends_so scripts one (Ok v) old new meaning is gives = λ found at left.
 ends_so scripts one (Err (fail.Throw v)) old new meaning is gives = λ found at left.
     let e : meaning old ≡ (Err (fail.Throw v), new) = gives (λ h. cc) in
     rw (is, e) refl
-ends_so scripts one (Err (fail.Over charged asked limit)) old new meaning is gives = λ found at left.
-    let e : meaning old ≡ (Err (fail.Over charged asked limit), new) = gives (λ h. cc) in
+ends_so scripts one (Err (fail.Over told)) old new meaning is gives = λ found at left.
+    let e : meaning old ≡ (Err (fail.Over told), new) = gives (λ h. cc) in
     rw (is, e) refl
 ends_so scripts one (Err fail.NoMemory) old new meaning is gives = λ found at left. absurd (found is)

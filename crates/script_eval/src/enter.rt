@@ -29,7 +29,7 @@ fn refuse_depth(alloc: Global, heap: &mut Heap) -> Result<Value, Fail>
     ensures closed { IsClosed heap.old → IsClosed heap.new }
     ensures sound { IsSoundResult heap.new result }
 {
-    let message = Units::from_latin1(alloc, b"nesting too deep").map_err(|_| Fail::NoMemory)?;
+    let message = Units::from_latin1(alloc, b"nesting too deep")?;
     js_ops::throw(heap, ErrorKind::RangeError, message)
 }
 

@@ -256,7 +256,7 @@ m-elements n at array (tree head kids rest) site s takes few =
 m-array : (n : ℕ) (at : Inside) (kids : Trees) (site : Site) (s : State) → TakesTicks at → s.left ≤ n → Most n (array_rule at kids site s)
 unfolding array_rule
 m-array n at kids site s takes few =
-    m-value n _ _ (m-of n s (made (item.Array []) s.heap (λ n heap. (Ok (value.Item n), heap))) few)
+    m-value n _ _ (m-of n s (value_made (item.Array []) s.heap) few)
     (λ array s few. m-elements n at (item_number array) kids site s takes few)
 
 m-properties : (n : ℕ) (at : Inside) (object : ℕ) (names : List (List ℕ)) (kids : Trees) (site : Site) (s : State) → TakesTicks at → s.left ≤ n
@@ -271,7 +271,7 @@ m-properties n at object (name ∷ names) (tree head kids rest) site s takes few
 m-object : (n : ℕ) (at : Inside) (t : Tree) (site : Site) (s : State) → TakesTicks at → s.left ≤ n → Most n (object_rule at t site s)
 unfolding object_rule
 m-object n at t site s takes few =
-    m-value n _ _ (m-of n s (made (item.Plain []) s.heap (λ n heap. (Ok (value.Item n), heap))) few)
+    m-value n _ _ (m-of n s (value_made (item.Plain []) s.heap) few)
     (λ object s few. m-properties n at (item_number object) t.head.names t.kids site s takes few)
 
 m-function-by : (n : ℕ) (name : Option (List ℕ)) (node : ℕ) (site : Site) (s : State) → s.left ≤ n → Most n (function_by name node site s)

@@ -169,7 +169,7 @@ item_number _ = 0
 
 unfoldable pub array_rule : Inside → Trees → Site → State → Out
 array_rule at kids site s =
-    with_value (of_heap s (made (item.Array []) s.heap (λ n heap. (Ok (value.Item n), heap))))
+    with_value (of_heap s (value_made (item.Array []) s.heap))
     (λ array s. elements_rule at (item_number array) kids site s)
 
 -- a new object, and each property as it is evaluated
@@ -183,13 +183,13 @@ properties_rule at object (name ∷ names) (tree head kids rest) site s =
 
 unfoldable pub object_rule : Inside → Tree → Site → State → Out
 object_rule at t site s =
-    with_value (of_heap s (made (item.Plain []) s.heap (λ n heap. (Ok (value.Item n), heap))))
+    with_value (of_heap s (value_made (item.Plain []) s.heap))
     (λ object s. properties_rule at (item_number object) t.head.names t.kids site s)
 
 -- a function of this form, made here; an arrow function keeps `this`
 abbrev pub closure_made : ℕ → Site → Value → Store → Ends Value
 closure_made node site receiver s =
-    made (item.Closure site.script node site.scope site.global receiver) s (λ n heap. (Ok (value.Item n), heap))
+    value_made (item.Closure site.script node site.scope site.global receiver) s
 
 -- a function that has a name of its own knows it: it stands in a scope of that one name
 abbrev pub function_by : Option (List ℕ) → ℕ → Site → State → Out

@@ -42,7 +42,7 @@ is_empty s = (Ok ended.Empty, s)
 -- a failure over the heap, as the end of a node
 abbrev pub abrupt_of : Fail → Abrupt
 abrupt_of (fail.Throw v) = abrupt.Throw v
-abrupt_of (fail.Over charged asked limit) = abrupt.Stop (Memory charged asked limit)
+abrupt_of (fail.Over told) = abrupt.Stop (Memory told)
 abrupt_of fail.NoMemory = abrupt.NoMemory
 
 -- ---- going on

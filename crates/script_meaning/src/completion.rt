@@ -2,6 +2,7 @@
 
 use crate::Place;
 use charged_heap::Value;
+use ivm_text::Overrun;
 
 /// How a node ends that isn't cut short (ECMA-262, Completion Record: normal).
 #[derive(Debug, Clone, Copy, PartialEq, Eq)]
@@ -21,12 +22,8 @@ pub enum Ended {
 pub enum StopCause {
     /// A tick was due and the budget was used up.
     Timeout,
-    /// The next charge would have passed the limit: the charge, the cells asked and the limit.
-    Memory {
-        charged: u32,
-        asked: u32,
-        limit: u32,
-    },
+    /// The next charge would have passed the limit.
+    Memory(Overrun),
 }
 
 /// Why a node ends before its end (ECMA-262, Completion Record: abrupt).

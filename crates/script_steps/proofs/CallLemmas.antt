@@ -110,11 +110,11 @@ push_is s n values at = ap (λ found. pushed_at found values s) (is_array_number
 
 -- a new item's number, as the value that stands for it
 pub made_value : (one : Item) (s t : Store) (n : ℕ) → item_made one s ≡ (Ok n, t)
-    → made one s (λ k after. (Ok (value.Item k), after)) ≡ (Ok (value.Item n), t)
+    → value_made one s ≡ (Ok (value.Item n), t)
 made_value one s t n is = grind arith
 
 pub made_refused : (one : Item) (s t : Store) (fail : Fail) → item_made one s ≡ (Err fail, t)
-    → made one s (λ k after. (Ok (value.Item k), after)) ≡ (Err fail, t)
+    → value_made one s ≡ (Err fail, t)
 made_refused one s t fail is = grind arith
 
 -- ---- parts that are evaluated in order

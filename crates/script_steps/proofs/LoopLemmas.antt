@@ -6,8 +6,8 @@ use Rattle.charged_heap.specs.declared.fault.Fail.{Fail}
 use Rattle.charged_heap.specs.declared.values.Value.{Value}
 use Rattle.js_ops.specs.Values.{truthy}
 use Rattle.js_scopes.specs.Bindings.{bindings_of, parent_of}
-use Rattle.js_scopes.specs.Scopes.{GivesScope, scope_copied}
-use Rattle.charged_heap.specs.Ends.{IsSoundFail}
+use Rattle.js_scopes.specs.Scopes.{scope_copied}
+use Rattle.charged_heap.specs.Ends.{Meets, IsSoundFail}
 use Rattle.js_scopes.proofs.NewScopes.{scope_throws_nothing}
 use Rattle.js_trees.specs.Tree.{Tree}
 use Rattle.script_meaning.specs.Loops.{loop_end, loop_rule, tested, to_next, turn}
@@ -69,7 +69,7 @@ unfolding after
 body_continued at scripts parts last later site v s is = rw is refl
 
 -- a copy of a scope is made, or it is refused or finds no memory
-pub copy_throws_nothing : (n : ℕ) (s t : Store) (result : Result ℕ Fail) → GivesScope result t (scope_copied n s) → IfErr result (IsSoundFail t)
+pub copy_throws_nothing : (n : ℕ) (s t : Store) (result : Result ℕ Fail) → Meets result t (scope_copied n s) → IfErr result (IsSoundFail t)
 unfolding scope_copied
 copy_throws_nothing n s t result gives = scope_throws_nothing (parent_of (item_at s n)) (bindings_of (item_at s n)) s t result gives
 

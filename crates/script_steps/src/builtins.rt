@@ -19,7 +19,7 @@ pub(crate) fn refuse_call(alloc: Global, heap: &mut Heap) -> Result<Value, Fail>
     ensures closed { IsClosed heap.old → IsClosed heap.new }
     ensures sound { IsSoundResult heap.new result }
 {
-    let message = Units::from_latin1(alloc, b"not a function").map_err(|_| Fail::NoMemory)?;
+    let message = Units::from_latin1(alloc, b"not a function")?;
     js_ops::throw(heap, ErrorKind::TypeError, message)
 }
 

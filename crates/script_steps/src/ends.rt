@@ -16,15 +16,7 @@ pub fn abrupt_of(fail: Fail) -> Abrupt
 {
     match fail {
         Fail::Throw(value) => Abrupt::Throw(value),
-        Fail::Over {
-            charged,
-            asked,
-            limit,
-        } => Abrupt::Stop(StopCause::Memory {
-            charged,
-            asked,
-            limit,
-        }),
+        Fail::Over(overrun) => Abrupt::Stop(StopCause::Memory(overrun)),
         Fail::NoMemory => Abrupt::NoMemory,
     }
 }

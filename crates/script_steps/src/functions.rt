@@ -13,7 +13,7 @@ ghost use Rattle.script_steps.specs.Sound.{IsSoundSite, IsSoundStep};
 use crate::Step;
 use crate::ends::of_heap;
 use crate::forms::name_at;
-use charged_heap::{Fail, Heap, Item, Value};
+use charged_heap::{Fail, Heap, Item, Value, make};
 use ivm_text::Units;
 use js_syntax::Scripts;
 use script_meaning::Site;
@@ -30,14 +30,14 @@ fn make_closure(heap: &mut Heap, node: u32, site: Site, receiver: Value) -> Resu
     ensures closed { IsClosed heap.old → IsClosed heap.new }
     ensures sound { IsSoundResult heap.new result }
 {
-    let number = heap.add(Item::Closure {
+    let function = Item::Closure {
         script: site.script,
         node,
         scope: site.scope,
         global: site.global,
         receiver,
-    })?;
-    Ok(Value::Item(number))
+    };
+    Ok(Value::Item(make(heap, function)?))
 }
 
 /// Makes an arrow function, which keeps `this`.

@@ -85,18 +85,8 @@ fn handle(
         }
         Err(Fail::NoMemory) => Step::Ended(Err(Abrupt::NoMemory)),
         Err(Fail::Throw(value)) => finish(scripts, node, site, Err(Abrupt::Throw(value))),
-        Err(
-            Fail::Over {
-                charged,
-                asked,
-                limit,
-            },
-        ) => {
-            let cause = StopCause::Memory {
-                charged,
-                asked,
-                limit,
-            };
+        Err(Fail::Over(overrun)) => {
+            let cause = StopCause::Memory(overrun);
             finish(scripts, node, site, Err(Abrupt::Stop(cause)))
         }
     }

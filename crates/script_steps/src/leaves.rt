@@ -14,8 +14,7 @@ use crate::Step;
 use crate::ends::of_heap;
 use crate::forms::number_at;
 use crate::places::{name_copy, read_place};
-use charged_heap::{Fail, Heap, Value};
-use js_ops::make_text;
+use charged_heap::{Fail, Heap, Item, Value, make};
 use js_syntax::{Kind, Scripts};
 use script_meaning::{Ended, Place, Site};
 use std::alloc::Global;
@@ -40,8 +39,8 @@ fn make_literal(
     ensures closed { IsClosed heap.old → IsClosed heap.new }
     ensures sound { IsSoundResult heap.new result }
 {
-    let units = name_copy(alloc, scripts, script, node).map_err(|_| Fail::NoMemory)?;
-    make_text(heap, units)
+    let units = name_copy(alloc, scripts, script, node)?;
+    Ok(Value::Item(make(heap, Item::Text(units))?))
 }
 
 /// Evaluates a text, which is a new string at each evaluation.

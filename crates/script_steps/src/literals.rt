@@ -15,7 +15,7 @@ ghost use Rattle.script_steps.specs.Sound.{IsSoundSite, IsSoundStep};
 use crate::ends::abrupt_of;
 use crate::forms::{kid_at, kid_count_at, names_at};
 use crate::{Frame, Step};
-use charged_heap::{Fail, Heap, Item, Props, Value, Values};
+use charged_heap::{Fail, Heap, Item, Props, Value, Values, make};
 use ivm_text::Units;
 use js_syntax::Scripts;
 use script_meaning::{Ended, Site};
@@ -106,8 +106,7 @@ fn make_array(alloc: Global, heap: &mut Heap) -> Result<u32, Fail>
     ensures array { IfOk result (IsAt IsArray heap.new) }
     ensures thrown { IfErr result (IsSoundFail heap.new) }
 {
-    let number = heap.add(Item::Array(Values::new(alloc)))?;
-    Ok(number)
+    make(heap, Item::Array(Values::new(alloc)))
 }
 
 /// Begins an array: it is made before its first element is evaluated.
@@ -179,7 +178,7 @@ fn properties_behind(scripts: &Scripts, node: u32, place: u32, object: u32, site
     Step::Ended(Ok(Ended::Value(Value::Item(object))))
 }
 
-/// Meets an object the property whose name stands at this place.
+/// Gives an object the property whose name stands at this place.
 #[tactic(auto, using(crate::proofs::CallLemmas::name_there, crate::proofs::CallLemmas::name_missing, crate::proofs::CallLemmas::plain_held))]
 fn add_property(
     alloc: Global,
@@ -204,7 +203,7 @@ fn add_property(
     }
 }
 
-/// Meets an object a property, and goes on with the next.
+/// Gives an object a property, and goes on with the next.
 #[tactic(auto, unfolding(crate::specs::After::after), using(crate::proofs::CallLemmas::site_grows))]
 pub(crate) fn property(
     alloc: Global,
@@ -242,9 +241,8 @@ fn make_object(alloc: Global, heap: &mut Heap) -> Result<u32, Fail>
     ensures object { IfOk result (IsAt IsPlain heap.new) }
     ensures thrown { IfErr result (IsSoundFail heap.new) }
 {
-    let properties = Props::new(alloc).map_err(|_| Fail::NoMemory)?;
-    let number = heap.add(Item::Plain(properties))?;
-    Ok(number)
+    let properties = Props::new(alloc)?;
+    make(heap, Item::Plain(properties))
 }
 
 /// Begins an object: it is made before its first property is evaluated.

@@ -86,7 +86,7 @@ pub(crate) fn refuse_key(alloc: Global, heap: &mut Heap) -> Result<Value, Fail>
     ensures closed { IsClosed heap.old → IsClosed heap.new }
     ensures sound { IsSoundResult heap.new result }
 {
-    let message = Units::from_latin1(alloc, b"wrong kind of operand").map_err(|_| Fail::NoMemory)?;
+    let message = Units::from_latin1(alloc, b"wrong kind of operand")?;
     throw(heap, ErrorKind::TypeError, message)
 }
 
@@ -127,7 +127,7 @@ pub(crate) fn read_computed(
     ensures closed { IsClosed heap.old → IsClosed heap.new }
     ensures sound { IsClosed heap.old → IsSoundResult heap.new result }
 {
-    let units = computed_units(alloc, heap, key).map_err(|_| Fail::NoMemory)?;
+    let units = computed_units(alloc, heap, key)?;
     read(alloc, heap, base, &units)
 }
 
@@ -180,7 +180,7 @@ fn write_member(
             write(alloc, heap, base, name, value)
         }
         Key::Computed(key) => {
-            let units = computed_units(alloc, heap, key).map_err(|_| Fail::NoMemory)?;
+            let units = computed_units(alloc, heap, key)?;
             write(alloc, heap, base, &units, value)
         }
     }
@@ -216,7 +216,7 @@ pub(crate) fn read_place(
     }
 }
 
-/// Meets a place a value (ECMA-262, PutValue), which is what it gives then.
+/// Gives a place a value (ECMA-262, PutValue), which is what it gives then.
 #[tactic(auto, unfolding(script_meaning::specs::Places::place_written))]
 pub(crate) fn write_place(
     alloc: Global,

@@ -129,7 +129,7 @@ fn name_in<'a>(scripts: &'a Scripts, node: u32, place: u32, site: Site) -> Optio
     names_at(scripts, site.script, node).get(place as usize)
 }
 
-/// Meets the name at a place undefined, since its initialiser is left out.
+/// Gives the name at a place undefined, since its initialiser is left out.
 #[tactic(auto, using(crate::proofs::Growing::growing, crate::proofs::ListLemmas::declared))]
 fn leave_undefined(
     scripts: &Scripts,
@@ -214,7 +214,7 @@ fn declare_behind(scripts: &Scripts, heap: &mut Heap, node: u32, place: u32, sit
     declare_from(scripts, heap, node, place + 1, site)
 }
 
-/// Meets the name at the place a value.
+/// Gives the name at the place a value.
 #[tactic(auto, using(crate::proofs::Growing::growing, crate::proofs::ListLemmas::named))]
 fn initialise_at(
     alloc: Global,
@@ -238,7 +238,7 @@ fn initialise_at(
     }
 }
 
-/// Meets the name at the place its value, and goes on with the names behind it.
+/// Gives the name at the place its value, and goes on with the names behind it.
 #[tactic(auto, unfolding(crate::specs::After::after))]
 pub(crate) fn declarator(
     alloc: Global,

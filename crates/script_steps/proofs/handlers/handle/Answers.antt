@@ -23,12 +23,12 @@ returns-in-Err-Throw-clause-step c =
 pub returns-in-Err-Over-clause-step : goal.returns-in-Err-Over-clause-step
 unfolding after
 returns-in-Err-Over-clause-step c =
-    let is : c.catch_scope.result ≡ Err (Over c.in-Err-Over.charged c.in-Err-Over.asked c.in-Err-Over.limit) = search rules in
+    let is : c.catch_scope.result ≡ Err (Over c.in-Err-Over.overrun) = search rules in
     let found : c.catch_scope.result ≢ Err NoMemory = λ none. cc in
     let e : catch_scope c.args.site.scope c.in-Some.name.now c.args.thrown c.args.heap.now
-    ≡ (Err (Over c.in-Err-Over.charged c.in-Err-Over.asked c.in-Err-Over.limit), c.catch_scope.new.heap) = rw is at (c.catch_scope.ensures.meets found) in
+    ≡ (Err (Over c.in-Err-Over.overrun), c.catch_scope.new.heap) = rw is at (c.catch_scope.ensures.meets found) in
     λ some at left. c.finish-in-Err-Over.ensures.step at (with_left c.catch_scope.new.heap left)
     ∙ sym (ap (try_end at (form_at c.args.scripts.now c.args.site.script c.args.node) c.args.site)
     (catch_refused at (form_at c.args.scripts.now c.args.site.script c.args.node) (kid 1 (form_at c.args.scripts.now c.args.site.script c.args.node).kids)
     c.in-Some.name.now c.args.site c.args.thrown c.args.heap.now c.catch_scope.new.heap left
-    (Over c.in-Err-Over.charged c.in-Err-Over.asked c.in-Err-Over.limit) c.in-Some.ensures e))
+    (Over c.in-Err-Over.overrun) c.in-Some.ensures e))
