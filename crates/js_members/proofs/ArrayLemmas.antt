@@ -1,5 +1,5 @@
--- One step of `push`, and `pop` of an array that isn't empty.
-use Rattle.std.proofs.Common.{◌≡◌, ℕ, ◌+◌, ◌-◌, ◌<◌, ◌≤◌, List, [], ◌∷◌, ◌++◌, Option, Some, None, Ok, length, drop, take, get_or, refl, sym, ap, subst, ◌∙◌, arith, add-one, length-append}
+-- One step of `push`, and `pop` of an array.
+use Rattle.std.proofs.Common.{◌≡◌, ℕ, ◌+◌, ◌-◌, ◌<◌, List, [], ◌∷◌, ◌++◌, Option, Some, None, Ok, length, drop, take, get_or, refl, sym, ap, ◌∙◌, arith, add-one, length-append}
 use Rattle.std.specs.Prelude.{slice_get, MatchOption}
 use Rattle.std.specs.Option.{unwrap_or}
 use Rattle.std.proofs.Math.Seq.{drop-cons, take-append_seam, get_or-append_seam}
@@ -13,7 +13,7 @@ use Rattle.charged_heap.specs.declared.values.Value.{Value}
 use Rattle.charged_heap.specs.declared.values.Value.TheVariants.{Undefined}
 use Rattle.charged_heap.proofs.ClosedLaws.{value_grows, elements_sound}
 use Rattle.js_members.specs.Writes.{appended}
-use Rattle.js_members.specs.Arrays.{last_of, without_last, pushed, popped, popped_as}
+use Rattle.js_members.specs.Arrays.{pushed, popped, popped_as}
 use Rattle.js_members.proofs.Sound.{all_at}
 
 -- ---- push
@@ -51,15 +51,15 @@ popped_end s n front v =
     (ap (λ k. take k (front ++ v ∷ [])) (end_place front v) ∙ take-append_seam front (v ∷ []))
 
 pub popped_is : (s t : Store) (n : ℕ) (last : Option Value)
-    → MatchOption last (elements (item_at s n) ≡ []) (λ v. elements (item_at s n) ≡ elements (item_at t n) ++ v ∷ [])
-    → t ≡ with_item s n (with_elements (item_at s n) (elements (item_at t n))) → (length (elements (item_at s n)) ≡ 0 → ⊥)
+    → MatchOption last ((elements (item_at s n) ≡ []) × (t ≡ s)) (λ v. elements (item_at s n) ≡ elements (item_at t n) ++ v ∷ [])
+    → t ≡ with_item s n (with_elements (item_at s n) (elements (item_at t n)))
     → popped n (elements (item_at s n)) s ≡ (Ok (unwrap_or last Undefined), t)
-popped_is s t n None was rest some = absurd (some (ap length was))
-popped_is s t n (Some v) was rest some =
+popped_is s t n None was rest = ap (λ values. popped n values s) was.0 ∙ ap (λ after. (Ok Undefined, after)) (sym was.1)
+popped_is s t n (Some v) was rest =
     ap (λ values. popped n values s) was ∙ popped_end s n (elements (item_at t n)) v ∙ ap (λ after. (Ok v, after)) (sym rest)
 
 pub popped_sound : (s t : Store) (n : ℕ) (last : Option Value)
-    → MatchOption last (elements (item_at s n) ≡ []) (λ v. elements (item_at s n) ≡ elements (item_at t n) ++ v ∷ [])
+    → MatchOption last ((elements (item_at s n) ≡ []) × (t ≡ s)) (λ v. elements (item_at s n) ≡ elements (item_at t n) ++ v ∷ [])
     → n < length s.items → Grows s t → IsClosed s → IsSoundValue t (unwrap_or last Undefined)
 popped_sound s t n None was within grows closed = tt
 popped_sound s t n (Some v) was within grows closed =

@@ -1,5 +1,5 @@
 -- Where a write goes, there is an item of the kind that it needs.
-use Rattle.std.proofs.Common.{◌≡◌, ◌⊎◌, ℕ, ◌<◌, List, [], ◌∷◌, Bool, true, false, Option, Some, None, length, refl, arith, subst, sym}
+use Rattle.std.proofs.Common.{◌≡◌, ℕ, ◌<◌, List, Bool, true, false, Option, Some, None, length, refl, arith, subst, sym}
 use Rattle.std.specs.Prelude.{nat_eq, nat_lt, if◌then◌else◌}
 use Rattle.ivm_text.specs.KeyOrder.{index_of}
 use Rattle.charged_heap.specs.Store.{Store, IsAt, IsPlain, IsArray, item_at, elements, kind_of}

@@ -1,5 +1,5 @@
 -- Keys compared unit by unit.
-use Rattle.std.proofs.Common.{◌≡◌, ℕ, ◌+◌, ◌<◌, ◌&&◌, List, [], ◌∷◌, Bool, true, false, length, drop, get_or, refl, sym, ap, arith, add-one, ◌∙◌}
+use Rattle.std.proofs.Common.{◌≡◌, ℕ, ◌+◌, ◌<◌, ◌&&◌, List, false, length, drop, get_or, refl, arith, add-one}
 use Rattle.std.specs.Prelude.{nat_eq}
 use Rattle.std.proofs.Math.Seq.{drop-cons}
 use Rattle.ivm_text.specs.Keys.{is_key}

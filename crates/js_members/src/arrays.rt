@@ -93,9 +93,6 @@ fn pop_at(heap: &mut Heap, n: u32) -> Value
     ensures closed { IsClosed heap.old → IsClosed heap.new }
     ensures sound { IsClosed heap.old → IsSoundValue heap.new result }
 {
-    if count_at(heap, n) == 0 {
-        return Value::Undefined;
-    }
     heap.pop(n).unwrap_or(Value::Undefined)
 }
 

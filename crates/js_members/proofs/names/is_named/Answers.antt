@@ -1,4 +1,4 @@
-use Rattle.std.proofs.Common.{◌≡◌, ◌∙◌, ◌<◌, length, sym, arith}
+use Rattle.std.proofs.Common.{◌∙◌, ◌<◌, length, sym, arith}
 use Rattle.js_members.proofs.KeyLemmas.{key_goes_on, key_ends}
 use Rattle.js_members.proofs.names.is_named.Goals as goal
 
