@@ -97,8 +97,8 @@ fn declare_function(
 {
     let number = make_function(heap, script, node, names, global)?;
     write(alloc, heap, Value::Item(global), name, Value::Item(number))?;
-    heap.declare_function(names, name)
-        .map_err(|_| Fail::NoMemory)
+    heap.declare_function(names, name)?;
+    Ok(())
 }
 
 /// Declares the function of one declaration, if it is that of a function.
