@@ -1,5 +1,5 @@
 -- A loop goes on round by round, however many rounds there may still be.
-use Rattle.std.proofs.Common.{◌≡◌, ◌∙◌, ◌⊎◌, inl, inr, ℕ, zero, suc, ◌<◌, ◌≤◌, Option, Some, None, Result, Ok, Err, refl, ap, arith, if◌then◌else◌}
+use Rattle.std.proofs.Common.{◌≡◌, ◌∙◌, ◌⊎◌, inl, inr, ℕ, zero, suc, ◌<◌, ◌≤◌, Option, Some, None, Ok, Err, refl, ap, arith, if◌then◌else◌}
 use Rattle.charged_heap.specs.Store.{Store}
 use Rattle.charged_heap.specs.declared.values.Value.{Value}
 use Rattle.js_ops.specs.Values.{truthy}

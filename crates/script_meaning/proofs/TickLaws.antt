@@ -1,6 +1,5 @@
 -- Every node takes a tick: whatever its form is, its rule leaves at most the ticks that it found.
 use Rattle.std.proofs.Common.{◌≡◌, ◌⊎◌, inl, inr, ℕ, zero, suc, ◌<◌, ◌≤◌, Bool, true, false, List, [], ◌∷◌, ◌++◌, Option, Some, None, Result, Ok, Err, refl, arith, if◌then◌else◌}
-use Rattle.charged_heap.specs.Store.{Store}
 use Rattle.charged_heap.specs.declared.builtin.Builtin.{Builtin}
 use Rattle.charged_heap.specs.declared.item.Item.{Item}
 use Rattle.charged_heap.specs.declared.item.Item.TheVariants as item
@@ -14,16 +13,17 @@ use Rattle.js_members.specs.Arrays.{pushed}
 use Rattle.js_members.specs.Writes.{write_outcome}
 use Rattle.js_ops.specs.declared.operators.BinaryOperator.{BinaryOperator}
 use Rattle.js_ops.specs.declared.operators.UnaryOperator.{UnaryOperator}
+use Rattle.js_trees.specs.Forms.{is_function_kind}
 use Rattle.js_trees.specs.Tree.{Tree, kid}
 use Rattle.js_trees.specs.declared.declaration.Declaration.{Declaration}
 use Rattle.charged_heap.specs.Ends.{Ends}
 use Rattle.js_scopes.specs.Lists.{block_scope, call_scope, name_scope}
 use Rattle.script_meaning.specs.Evaluates.{callee_by, evaluated, node_by, statement_by, target_by, too_deep, value_by}
 use Rattle.script_meaning.specs.Expressions.{arguments_rule, array_rule, assign_rule, binary_rule, called_rule, closure_made, comma_rule, computed_for, condition_rule, elements_rule, function_by, function_rule, goes_right, index_rule, item_number, logical_rule, member_for, member_rule, object_rule, properties_rule, step_rule, typeof_by, typeof_rule, unary_rule, update_rule, void_rule}
-use Rattle.script_meaning.specs.Functions.{body_declares, body_rule, builtin_rule, call_rule, enter_rule, is_body, is_function, item_call, no_function, returned, this_of}
-use Rattle.script_meaning.specs.Handlers.{at_last, caught, finalized, finalized_by, handled, handled_by, handler_by, kept, throw_rule, try_rule}
-use Rattle.script_meaning.specs.Loops.{Loop, after_body, first_round, for_by, for_loop, for_rule, headed, loop_rule, round, round_site, rounds, started, tested, to_next, turn, updated, while_rule}
-use Rattle.script_meaning.specs.Outcome.{State, Out, Inside, gives, of_heap, on_heap, ticked, with_callee, with_end, with_place, with_tick, with_value}
+use Rattle.script_meaning.specs.Functions.{body_declares, body_rule, builtin_rule, call_rule, enter_rule, is_body, item_call, no_function, returned, this_of}
+use Rattle.script_meaning.specs.Handlers.{at_last, caught, finalized_by, handled_by, handler_by, kept, throw_rule, try_rule}
+use Rattle.script_meaning.specs.Loops.{Loop, after_body, first_round, for_by, for_loop, for_rule, headed, loop_rule, round_site, rounds, started, tested, to_next, turn, updated, while_rule}
+use Rattle.script_meaning.specs.Outcome.{State, Out, Inside, gives, of_heap, on_heap, ticked, with_callee, with_end, with_place, with_value}
 use Rattle.script_meaning.specs.Places.{ScriptList, form_at, place_read, place_written}
 use Rattle.script_meaning.specs.Statements.{after_statement, block_by, block_rule, declarator, declare_rule, else_by, filled, if_rule, list_rule, return_by, return_rule}
 use Rattle.script_meaning.specs.Ticks.{TakesTicks}
@@ -129,7 +129,7 @@ m-enter n at f site arguments s takes few =
 m-item : (n : ℕ) (at : Inside) (scripts : ScriptList) (one : Item) (receiver : Value) (arguments : List Value) (s : State)
     → TakesTicks at → s.left ≤ n → Most n (item_call at scripts one receiver arguments s)
 m-item n at scripts (item.Closure script node scope global kept) receiver arguments s takes few =
-    m-if n (is_function (form_at scripts script node).head.kind)
+    m-if n (is_function_kind (form_at scripts script node).head.kind)
     (enter_rule at (form_at scripts script node)
     (record { script = script; scope = scope; global = global; receiver = this_of (form_at scripts script node).head.kind kept receiver }) arguments s)
     (of_heap s (no_function s.heap))

@@ -1,6 +1,6 @@
 -- What a node does: a tick, and the rule of its form, one node deeper. And what a whole run does.
 -- ECMA-262, Runtime Semantics: Evaluation. Ticks and nesting are this project's own; docs/SCRIPTS.md, "Evaluation", docs/PRICES.md, "Ticks".
-use Rattle.std.specs.Prelude.{◌≡◌, ℕ, zero, suc, ◌+◌, ◌-◌, List, codes, Option, Some, None, Bool, true, false, Result, Ok, Err}
+use Rattle.std.specs.Prelude.{ℕ, zero, suc, ◌-◌, List, codes, None, true, false, Result, Ok, Err}
 use Rattle.ivm_text.specs.declared.copies.ErrorKind.TheVariants.{RangeError}
 use Rattle.charged_heap.specs.Store.{Store}
 use Rattle.charged_heap.specs.declared.values.Value.{Value}
@@ -16,7 +16,7 @@ use Rattle.js_scopes.specs.Names.{name_outcome}
 use Rattle.js_trees.specs.Tree.{Tree, kid}
 use Rattle.js_trees.specs.Declarations.{declarations}
 use Rattle.js_scopes.specs.Scripts.{script_declared}
-use Rattle.script_meaning.specs.Outcome.{State, Out, Inside, gives, is_empty, on_heap, of_heap, with_value, with_tick}
+use Rattle.script_meaning.specs.Outcome.{State, Out, Inside, gives, is_empty, on_heap, of_heap, with_tick}
 use Rattle.script_meaning.specs.Places.{ScriptList, form_at, name_of}
 use Rattle.script_meaning.specs.Functions.{call_rule}
 use Rattle.script_meaning.specs.Expressions.{comma_rule, binary_rule, unary_rule, typeof_rule, void_rule, condition_rule, logical_rule, assign_rule, update_rule, step_rule, member_rule, index_rule, called_rule, array_rule, object_rule, closure_made, function_rule}

@@ -1,6 +1,6 @@
 -- One rule for each form of expression. `at` evaluates what stands inside the form.
 -- ECMA-262, Expressions; docs/SCRIPTS.md, "Evaluation".
-use Rattle.std.specs.Prelude.{ℕ, List, [], ◌∷◌, ◌++◌, length, Option, Some, None, Bool, true, false, Ok, if◌then◌else◌}
+use Rattle.std.specs.Prelude.{ℕ, List, [], ◌∷◌, ◌++◌, Option, Some, None, Bool, true, false, Ok, if◌then◌else◌}
 use Rattle.charged_heap.specs.Store.{Store}
 use Rattle.charged_heap.specs.declared.item.Item.TheVariants as item
 use Rattle.charged_heap.specs.declared.values.Value.{Value}
@@ -9,7 +9,7 @@ use Rattle.js_syntax.specs.declared.kind.Kind.{Kind}
 use Rattle.js_syntax.specs.declared.kind.Kind.TheVariants as kinds
 use Rattle.js_syntax.specs.Tree.{Trees, nothing, tree}
 use Rattle.charged_heap.specs.Ends.{Ends}
-use Rattle.js_ops.specs.Outcome.{value_made, text_made, binary_outcome, unary_outcome}
+use Rattle.js_ops.specs.Outcome.{value_made, binary_outcome, unary_outcome}
 use Rattle.js_ops.specs.Values.{truthy}
 use Rattle.js_ops.specs.declared.operators.BinaryOperator.{BinaryOperator}
 use Rattle.js_ops.specs.declared.operators.UnaryOperator.{UnaryOperator}
@@ -17,7 +17,6 @@ use Rattle.js_ops.specs.declared.operators.UnaryOperator.TheVariants as unary
 use Rattle.js_members.specs.Arrays.{pushed}
 use Rattle.js_members.specs.Reads.{read_outcome}
 use Rattle.js_members.specs.Writes.{write_outcome}
-use Rattle.js_scopes.specs.Names.{name_outcome}
 use Rattle.js_scopes.specs.Scopes.{initialised}
 use Rattle.js_trees.specs.Tree.{Tree, kid, kids_from}
 use Rattle.js_scopes.specs.Lists.{name_scope}
@@ -27,7 +26,6 @@ use Rattle.script_meaning.specs.Functions.{call_rule}
 use Rattle.script_meaning.specs.declared.completion.Ended.TheVariants as ended
 use Rattle.script_meaning.specs.declared.site.Key.{Key}
 use Rattle.script_meaning.specs.declared.site.Key.TheVariants as key
-use Rattle.script_meaning.specs.declared.site.Place.{Place}
 use Rattle.script_meaning.specs.declared.site.Place.TheVariants as place
 use Rattle.script_meaning.specs.declared.site.Role.{Role}
 use Rattle.script_meaning.specs.declared.site.Role.TheVariants as role

@@ -1,6 +1,6 @@
 -- What a call does.
 -- ECMA-262, EvaluateCall and the [[Call]] of functions; docs/SCRIPTS.md, "Calls".
-use Rattle.std.specs.Prelude.{ℕ, List, [], codes, Option, Some, None, Bool, true, false, Result, Ok, Err, if◌then◌else◌}
+use Rattle.std.specs.Prelude.{List, [], codes, Bool, true, false, Ok, Err, if◌then◌else◌}
 use Rattle.ivm_text.specs.declared.copies.ErrorKind.TheVariants.{TypeError}
 use Rattle.charged_heap.specs.Store.{Store, item_at}
 use Rattle.charged_heap.specs.declared.builtin.Builtin.{Builtin}
@@ -14,6 +14,7 @@ use Rattle.js_syntax.specs.declared.kind.Kind.TheVariants as kinds
 use Rattle.charged_heap.specs.Ends.{Ends}
 use Rattle.js_ops.specs.Outcome.{thrown}
 use Rattle.js_members.specs.Arrays.{push_outcome, pop_outcome}
+use Rattle.js_trees.specs.Forms.{is_function_kind}
 use Rattle.js_trees.specs.Tree.{Tree, kid}
 use Rattle.js_trees.specs.Declarations.{declarations}
 use Rattle.js_trees.specs.declared.declaration.Declaration.{Declaration}
@@ -46,13 +47,6 @@ builtin_rule which receiver arguments s = with_tick s (λ s. of_heap s (builtin_
 abbrev pub is_body : Kind → Bool
 is_body kinds.Body = true
 is_body _ = false
-
--- which forms are functions
-abbrev pub is_function : Kind → Bool
-is_function kinds.FunctionDecl = true
-is_function kinds.FunctionExpr = true
-is_function kinds.Arrow = true
-is_function _ = false
 
 -- what the body of a function declares; an expression in its place declares nothing
 abbrev pub body_declares : Tree → List Declaration
@@ -87,7 +81,7 @@ enter_rule at f site arguments s =
 -- an item that is a function of one of the scripts is entered; no other can be called
 abbrev pub item_call : Inside → ScriptList → Item → Value → List Value → State → Out
 item_call at scripts (item.Closure script node scope global kept) receiver arguments s =
-    if is_function (form_at scripts script node).head.kind
+    if is_function_kind (form_at scripts script node).head.kind
     then enter_rule at (form_at scripts script node)
     (record { script = script; scope = scope; global = global; receiver = this_of (form_at scripts script node).head.kind kept receiver }) arguments s
     else of_heap s (no_function s.heap)

@@ -1,6 +1,6 @@
 -- Loops. `at` evaluates what stands inside the form.
 -- ECMA-262, Iteration Statements and CreatePerIterationEnvironment; docs/SCRIPTS.md, "Loops".
-use Rattle.std.specs.Prelude.{ℕ, zero, suc, List, [], ◌∷◌, Option, Some, None, Bool, true, false, Result, Ok, Err, if◌then◌else◌}
+use Rattle.std.specs.Prelude.{ℕ, zero, suc, List, [], ◌∷◌, Option, Some, None, Bool, true, false, Ok, Err, if◌then◌else◌}
 use Rattle.charged_heap.specs.Store.{Store}
 use Rattle.charged_heap.specs.declared.values.Value.{Value}
 use Rattle.js_syntax.specs.declared.kind.Kind.{Kind}

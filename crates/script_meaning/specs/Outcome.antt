@@ -1,12 +1,11 @@
 -- How the evaluation of a node ends, with the state then, and how one goes on after another.
 -- ECMA-262, The Completion Record Specification Type; docs/SCRIPTS.md, "Evaluation".
-use Rattle.std.specs.Prelude.{ℕ, zero, suc, Option, Some, None, Result, Ok, Err}
+use Rattle.std.specs.Prelude.{ℕ, zero, suc, Result, Ok, Err}
 use Rattle.charged_heap.specs.Store.{Store}
 use Rattle.charged_heap.specs.declared.fault.Fail.{Fail}
 use Rattle.charged_heap.specs.declared.fault.Fail.TheVariants as fail
 use Rattle.charged_heap.specs.declared.values.Value.{Value}
 use Rattle.charged_heap.specs.declared.values.Value.TheVariants as value
-use Rattle.js_syntax.specs.Tree.{Trees}
 use Rattle.js_trees.specs.Tree.{Tree}
 use Rattle.charged_heap.specs.Ends.{Ends}
 use Rattle.script_meaning.specs.declared.completion.Abrupt.{Abrupt}

@@ -1,6 +1,6 @@
 -- The names of nodes, the keys of members, and what a place reads and takes.
 -- ECMA-262, The Reference Record Specification Type, GetValue and PutValue; docs/SCRIPTS.md, "Members".
-use Rattle.std.specs.Prelude.{ℕ, List, [], slice_index_or, codes, length, Option, Some, None, Result, Ok, Err, nat_lt, if◌then◌else◌}
+use Rattle.std.specs.Prelude.{ℕ, List, [], slice_index_or, codes, length, Option, Some, Ok, Err, nat_lt, if◌then◌else◌}
 use Rattle.std.specs.Option.{unwrap_or}
 use Rattle.std.specs.Fmt.{signed_decimal}
 use Rattle.ivm_text.specs.declared.copies.ErrorKind.TheVariants.{TypeError}

@@ -1,6 +1,6 @@
 -- One rule for each form of statement. `at` evaluates what stands inside the form.
 -- ECMA-262, Statements and Declarations; docs/SCRIPTS.md, "Evaluation".
-use Rattle.std.specs.Prelude.{ℕ, List, [], ◌∷◌, Option, Some, None, Bool, true, false, Result, Ok, Err, if◌then◌else◌}
+use Rattle.std.specs.Prelude.{ℕ, List, [], ◌∷◌, Option, Some, None, Ok, Err, if◌then◌else◌}
 use Rattle.charged_heap.specs.declared.values.Value.{Value}
 use Rattle.charged_heap.specs.declared.values.Value.TheVariants as value
 use Rattle.js_syntax.specs.declared.kind.Kind.{Kind}
@@ -8,11 +8,11 @@ use Rattle.js_syntax.specs.declared.kind.Kind.TheVariants as kinds
 use Rattle.js_syntax.specs.Tree.{Trees, nothing, tree}
 use Rattle.js_ops.specs.Values.{truthy}
 use Rattle.js_scopes.specs.Scopes.{initialised}
-use Rattle.js_trees.specs.Tree.{Tree, kid}
+use Rattle.js_trees.specs.Tree.{kid}
 use Rattle.js_trees.specs.Declarations.{declarations}
 use Rattle.js_trees.specs.declared.declaration.Declaration.{Declaration}
 use Rattle.js_scopes.specs.Lists.{block_scope}
-use Rattle.script_meaning.specs.Outcome.{State, Out, Inside, gives, is_empty, on_heap, with_value}
+use Rattle.script_meaning.specs.Outcome.{State, Out, Inside, is_empty, on_heap, with_value}
 use Rattle.script_meaning.specs.declared.completion.Abrupt.TheVariants as abrupt
 use Rattle.script_meaning.specs.declared.completion.Ended.{Ended}
 use Rattle.script_meaning.specs.declared.completion.Ended.TheVariants as ended

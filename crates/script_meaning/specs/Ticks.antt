@@ -1,6 +1,6 @@
 -- What the evaluation of nodes takes of the ticks that are left.
 -- This project's own; docs/PRICES.md, "Ticks".
-use Rattle.std.specs.Prelude.{◌≡◌, ◌⊎◌, ◌<◌, Result, Err}
+use Rattle.std.specs.Prelude.{◌≡◌, ◌⊎◌, ◌<◌, Err}
 use Rattle.js_trees.specs.Tree.{Tree}
 use Rattle.script_meaning.specs.Outcome.{State, Inside}
 use Rattle.script_meaning.specs.declared.completion.Abrupt.TheVariants as abrupt
