@@ -3,6 +3,7 @@ use Rattle.std.proofs.Common.{◌≡◌, ℕ, ◌+◌, ◌-◌, ◌≤◌, List,
 use Rattle.std.specs.Option.{unwrap_or, option_map_or}
 use Rattle.ivm_text.specs.declared.copies.Copy.{Copy}
 use Rattle.ivm_text.specs.declared.copies.Passed.TheVariants as passed
+use Rattle.ivm_text.specs.declared.overrun.Overrun.{Overrun}
 use Rattle.charged_heap.specs.Price.{charge_of, price_of}
 use Rattle.charged_heap.specs.Store.{Store}
 use Rattle.charged_heap.specs.declared.fault.Fail.TheVariants.{Throw, Over, NoMemory}
@@ -11,7 +12,7 @@ use Rattle.charged_heap.specs.declared.item.Item.TheVariants as item
 use Rattle.charged_heap.specs.declared.values.Value.{Value}
 use Rattle.charged_heap.specs.declared.values.Value.TheVariants as value
 use Rattle.js_members.specs.Writes.{write_outcome}
-use Rattle.js_scopes.specs.Ends.{Ends, and_then, item_made}
+use Rattle.charged_heap.specs.Ends.{Ends, and_then, item_made}
 use Rattle.script_meaning.specs.Evaluates.{script_run, run_end, run_start}
 use Rattle.script_meaning.specs.declared.completion.Completion.{Completion}
 use Rattle.script_meaning.specs.declared.completion.Completion.TheVariants as completion
@@ -47,7 +48,7 @@ TellsThere new out = (n row : ℕ) → out ≡ outcome.Context n row → AreTher
 -- what lives on is told as no disposal; what ends, as the limit that was passed
 pub data Comes (old : Contents) : Done → Type 0 where
   lives_on : (new : Contents) (out : Outcome) (ticks : ℕ) → HasAll old new → is_disposal out ≡ false → TellsThere new out → Comes old (lives new out ticks)
-  passes : (s : Store) (charged asked limit ticks : ℕ) → Comes old (over s charged asked limit ticks)
+  passes : (s : Store) (told : Overrun) (ticks : ℕ) → Comes old (over s told ticks)
 
 -- ---- what makes no context lives on so
 
@@ -82,7 +83,7 @@ same_on old new out ticks contexts rows quiet other = lives_on new out ticks (al
 -- a call over the heap that goes on so
 comes_on : {A : Type 0} (old : Contents) (ends : Ends A) (go : A → Store → Done) → ((a : A) (s : Store) → Comes old (go a s)) → Comes old (going_on old ends go)
 comes_on old (Ok a, s) go each = each a s
-comes_on old (Err (Over charged asked limit), s) go each = passes s charged asked limit 0
+comes_on old (Err (Over told), s) go each = passes s told 0
 comes_on old (Err (Throw v), s) go each = same_on old (with_store old s) (thrown s v) 0 refl refl refl (λ n row is. cc)
 comes_on old (Err NoMemory, s) go each = same_on old (with_store old s) outcome.Done 0 refl refl refl done_other
 
@@ -107,7 +108,7 @@ run_comes : (old middle : Contents) (ran : Completion × Store × ℕ) → middl
 run_comes old middle (completion.Normal v, s, ticks) contexts rows = same_on old (with_store middle s) (result s v) ticks contexts rows refl (λ n row is. cc)
 run_comes old middle (completion.Throw v, s, ticks) contexts rows = same_on old (with_store middle s) (thrown s v) ticks contexts rows refl (λ n row is. cc)
 run_comes old middle (completion.Stop Timeout, s, ticks) contexts rows = same_on old (with_store middle s) (outcome.Timeout ticks) ticks contexts rows refl (timeout_other ticks)
-run_comes old middle (completion.Stop (Memory charged asked limit), s, ticks) contexts rows = passes s charged asked limit ticks
+run_comes old middle (completion.Stop (Memory told), s, ticks) contexts rows = passes s told ticks
 
 text_comes : (budget n : ℕ) (reading : Reading) (old : Contents) → Comes old (text_run budget n reading old)
 unfolding text_run
@@ -151,51 +152,51 @@ comes budget (kind.Resume promise answer) old done acts = absurd acts
 -- it has ended exactly where it tells a disposal
 pub quiet : (old : Contents) (done : Done) → Comes old done → is_disposal done.out ≡ is_ended done.state
 quiet old done (lives_on new out ticks all silent there) = silent
-quiet old done (passes s charged asked limit ticks) = refl
+quiet old done (passes s told ticks) = refl
 
 -- the host has no part in it
 pub never_host : (old : Contents) (done : Done) → Comes old done → done.state ≡ ended Host → ⊥
 never_host old done (lives_on new out ticks all silent there) is = cc
-never_host old done (passes s charged asked limit ticks) is = cc
+never_host old done (passes s told ticks) is = cc
 
 -- it tells no end that came before
 pub never_disposed : (old : Contents) (done : Done) (by : By) → Comes old done → done.out ≡ outcome.Disposed by → ⊥
 never_disposed old done by (lives_on new out ticks all silent there) is = let loud : false ≡ true = sym silent ∙ ap is_disposal is in cc
-never_disposed old done by (passes s charged asked limit ticks) is = cc
+never_disposed old done by (passes s told ticks) is = cc
 
 pub ends_by_limit : (task : Task) (old : Contents) (done : Done) → Comes old done → EndsByLimit done.state (entry_of task done.out done.ticks done.cells)
 ends_by_limit task old done (lives_on new out ticks all silent there) = silent
-ends_by_limit task old done (passes s charged asked limit ticks) = (refl, tt)
+ends_by_limit task old done (passes s told ticks) = (refl, tt)
 
 -- what was there is there, unless it has ended
 pub stays_there : (old : Contents) (done : Done) (n row : ℕ) → Comes old done → AreThere (live old) n row → AreThere done.state n row
 stays_there old done n row (lives_on new out ticks all silent there) was = (omega (arith, was.0, all.contexts), omega (arith, was.1, all.rows))
-stays_there old done n row (passes s charged asked limit ticks) was = tt
+stays_there old done n row (passes s told ticks) was = tt
 
 -- and so is what is told
 pub told_there : (old : Contents) (done : Done) (n row : ℕ) → Comes old done → done.out ≡ outcome.Context n row → AreThere done.state n row
 told_there old done n row (lives_on new out ticks all silent there) is = there n row is
-told_there old done n row (passes s charged asked limit ticks) is = tt
+told_there old done n row (passes s told ticks) is = tt
 
 -- ---- the making of a context
 
 -- nothing is thrown, and memory is there
 abbrev IsRefusedAtMost : {A : Type 0} → Ends A → Type 0
 IsRefusedAtMost (Ok a, s) = Unit {0}
-IsRefusedAtMost (Err (Over charged asked limit), s) = Unit {0}
+IsRefusedAtMost (Err (Over told), s) = Unit {0}
 IsRefusedAtMost (Err (Throw v), s) = ⊥
 IsRefusedAtMost (Err NoMemory, s) = ⊥
 
-refused_if : {A : Type 0} (fits : Bool) (a : A) (now s : Store) (charged asked limit : ℕ) → IsRefusedAtMost {A = A} (if fits then (Ok a, now) else (Err (Over charged asked limit), s))
-refused_if true a now s charged asked limit = tt
-refused_if false a now s charged asked limit = tt
+refused_if : {A : Type 0} (fits : Bool) (a : A) (now s : Store) (told : Overrun) → IsRefusedAtMost {A = A} (if fits then (Ok a, now) else (Err (Over told), s))
+refused_if true a now s told = tt
+refused_if false a now s told = tt
 
 refused_made : (one : Item) (s : Store) → IsRefusedAtMost (item_made one s)
-refused_made one s = refused_if (nat_le (charge_of s.items + price_of one) s.limit) _ _ _ _ _ _
+refused_made one s = refused_if (nat_le (charge_of s.items + price_of one) s.limit) _ _ _ _
 
 refused_then : {A B : Type 0} (ends : Ends A) (next : A → Store → Ends B) → IsRefusedAtMost ends → ((a : A) (s : Store) → IsRefusedAtMost (next a s)) → IsRefusedAtMost (and_then ends next)
 refused_then (Ok a, s) next is each = each a s
-refused_then (Err (Over charged asked limit), s) next is each = tt
+refused_then (Err (Over told), s) next is each = tt
 refused_then (Err (Throw v), s) next is each = absurd is
 refused_then (Err NoMemory, s) next is each = absurd is
 
@@ -207,7 +208,7 @@ refused_items s =
 
 reply_on : {A : Type 0} (old : Contents) (ends : Ends A) (go : A → Store → Done) → IsRefusedAtMost ends → ((a : A) (s : Store) → IsContextReply (live old) (go a s).out) → IsContextReply (live old) (going_on old ends go).out
 reply_on old (Ok a, s) go is each = each a s
-reply_on old (Err (Over charged asked limit), s) go is each = inr tt
+reply_on old (Err (Over told), s) go is each = inr tt
 reply_on old (Err (Throw v), s) go is each = absurd is
 reply_on old (Err NoMemory, s) go is each = absurd is
 

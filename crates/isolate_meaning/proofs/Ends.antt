@@ -123,7 +123,7 @@ last_there front entry = Contains-append_right front (entry ∷ []) entry (0, om
 
 caused_done : (front : List Entry) (task : Task) (old : Contents) (done : Done) → Comes old done → HasCause (front ++ entry_of task done.out done.ticks done.cells ∷ []) done.state
 caused_done front task old done (lives_on new out ticks all silent there) = tt
-caused_done front task old done (passes s charged asked limit ticks) =
+caused_done front task old done (passes s told ticks) =
     let entry = entry_of task done.out done.ticks done.cells in (entry, last_there front entry, tt)
 
 caused_deed : (front : List Entry) (task : Task) (old new : State) (entry : Entry) → DoesTo task old new entry → HasCause front old → HasCause (front ++ entry ∷ []) new

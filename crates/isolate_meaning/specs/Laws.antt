@@ -36,7 +36,7 @@ AnswersEachOnce journal = replies (outs journal) ≡ calls journal
 
 -- the limit in cells was passed
 abbrev pub IsMemoryLimit : Outcome → Type 0
-IsMemoryLimit (outcome.MemoryLimit charged asked limit) = Unit {0}
+IsMemoryLimit (outcome.MemoryLimit told) = Unit {0}
 IsMemoryLimit _ = ⊥
 
 -- what comes of the making of a context: on a live isolate it is told with the number of those before it and that of its

@@ -3,6 +3,7 @@
 use Rattle.std.specs.Prelude.{ℕ, List, [], ◌∷◌, ◌++◌, ◌-◌, length, slice_index_or, Option, None, Ok, Err}
 use Rattle.std.specs.Option.{unwrap_or}
 use Rattle.ivm_text.specs.Keys.{value_at}
+use Rattle.ivm_text.specs.declared.overrun.Overrun.{Overrun}
 use Rattle.charged_heap.specs.Price.{charge_of}
 use Rattle.charged_heap.specs.Store.{Store, item_at, properties}
 use Rattle.charged_heap.specs.declared.fault.Fail.TheVariants.{Throw, Over, NoMemory}
@@ -12,7 +13,7 @@ use Rattle.charged_heap.specs.declared.values.Value.{Value}
 use Rattle.charged_heap.specs.declared.values.Value.TheVariants as value
 use Rattle.js_syntax.specs.declared.node.Node.{Node}
 use Rattle.js_members.specs.Writes.{write_outcome}
-use Rattle.js_scopes.specs.Ends.{Ends, and_then, item_made}
+use Rattle.charged_heap.specs.Ends.{Ends, and_then, item_made}
 use Rattle.script_meaning.specs.Evaluates.{script_run, run_end, run_start}
 use Rattle.script_meaning.specs.declared.completion.Completion.{Completion}
 use Rattle.script_meaning.specs.declared.completion.Completion.TheVariants as completion
@@ -39,10 +40,10 @@ abbrev pub lives : Contents → Outcome → ℕ → Done
 lives contents out ticks = record { state = live contents; out = out; ticks = ticks; cells = cells_of contents }
 
 -- the next charge would have passed the limit, which ends the isolate; its items are gone
-abbrev pub over : Store → ℕ → ℕ → ℕ → ℕ → Done
-over s charged asked limit ticks = record {
+abbrev pub over : Store → Overrun → ℕ → Done
+over s told ticks = record {
   state = ended by.Memory;
-  out = outcome.MemoryLimit charged asked limit;
+  out = outcome.MemoryLimit told;
   ticks = ticks;
   cells = charge_of s.items;
 }
@@ -54,7 +55,7 @@ with_store contents s = record contents { store = s }
 -- No such call ends for want of memory.
 abbrev pub going_on : {A : Type 0} → Contents → Ends A → (A → Store → Done) → Done
 going_on contents (Ok a, s) go = go a s
-going_on contents (Err (Over charged asked limit), s) go = over s charged asked limit 0
+going_on contents (Err (Over told), s) go = over s told 0
 going_on contents (Err (Throw v), s) go = lives (with_store contents s) (thrown s v) 0
 going_on contents (Err NoMemory, s) go = lives (with_store contents s) outcome.Done 0
 
@@ -98,7 +99,7 @@ abbrev pub run_done : Contents → Completion × Store × ℕ → Done
 run_done contents (completion.Normal v, s, ticks) = lives (with_store contents s) (result s v) ticks
 run_done contents (completion.Throw v, s, ticks) = lives (with_store contents s) (thrown s v) ticks
 run_done contents (completion.Stop Timeout, s, ticks) = lives (with_store contents s) (outcome.Timeout ticks) ticks
-run_done contents (completion.Stop (Memory charged asked limit), s, ticks) = over s charged asked limit ticks
+run_done contents (completion.Stop (Memory told), s, ticks) = over s told ticks
 
 -- the last script is run in a context, within so many ticks
 abbrev pub last_run : ℕ → ℕ → Context → Contents → Done

@@ -98,8 +98,8 @@ outcome_text want first ticks outcome.Done = codes "done"
 outcome_text want first ticks (outcome.Throw copy) = codes "throw " ++ value_text copy
 outcome_text want first ticks (outcome.Syntax r) = syntax_text r
 outcome_text want first ticks (outcome.Timeout n) = codes "timeout " ++ decimal n
-outcome_text want first ticks (outcome.MemoryLimit charged asked limit) =
-    codes "memory charged=" ++ decimal charged ++ codes " asked=" ++ decimal asked ++ codes " limit=" ++ decimal limit
+outcome_text want first ticks (outcome.MemoryLimit told) =
+    codes "memory charged=" ++ decimal told.charged ++ codes " asked=" ++ decimal told.asked ++ codes " limit=" ++ decimal told.limit
 outcome_text want first ticks (outcome.Disposed by) = disposed_text first ticks
 outcome_text want first ticks outcome.WrongIsolate = codes "wrong isolate"
 outcome_text want first ticks outcome.NotTransferable = codes "not transferable"

@@ -6,7 +6,7 @@ ghost use Rattle.ivm_report.specs.Outcomes.{disposed_text, outcome_text, own_tex
 
 use crate::numbers::push_decimal;
 use crate::values::push_value;
-use ivm_text::{NoMemory, Passed, Refusal, RefusalKind, TypeOf, Uncopyable, Units, Want};
+use ivm_text::{NoMemory, Overrun, Passed, Refusal, RefusalKind, TypeOf, Uncopyable, Units, Want};
 use std::alloc::Global;
 use task_history::{Outcome, Own};
 
@@ -35,11 +35,7 @@ pub(crate) fn push_outcome(
             text.extend_from_slice(b"timeout ")?;
             push_decimal(alloc, text, *ticks)?;
         }
-        Outcome::MemoryLimit {
-            charged,
-            asked,
-            limit,
-        } => push_memory(alloc, text, *charged, *asked, *limit)?,
+        Outcome::MemoryLimit(overrun) => push_memory(alloc, text, *overrun)?,
         Outcome::Disposed(_) => push_disposed(alloc, text, first, ticks)?,
         Outcome::WrongIsolate => text.extend_from_slice(b"wrong isolate")?,
         Outcome::NotTransferable => text.extend_from_slice(b"not transferable")?,
@@ -56,21 +52,15 @@ fn push_uncopyable(text: &mut Vec<u8>, kind: Uncopyable) -> Result<(), NoMemory>
     Ok(())
 }
 
-fn push_memory(
-    alloc: Global,
-    text: &mut Vec<u8>,
-    charged: u32,
-    asked: u32,
-    limit: u32,
-) -> Result<(), NoMemory>
-    ensures { OnOk result (text.new.items ≡ text.old.items ++ outcome_text Want.Value false 0 (Outcome.MemoryLimit charged asked limit)) }
+fn push_memory(alloc: Global, text: &mut Vec<u8>, overrun: Overrun) -> Result<(), NoMemory>
+    ensures { OnOk result (text.new.items ≡ text.old.items ++ outcome_text Want.Value false 0 (Outcome.MemoryLimit overrun)) }
 {
     text.extend_from_slice(b"memory charged=")?;
-    push_decimal(alloc, text, charged)?;
+    push_decimal(alloc, text, overrun.charged)?;
     text.extend_from_slice(b" asked=")?;
-    push_decimal(alloc, text, asked)?;
+    push_decimal(alloc, text, overrun.asked)?;
     text.extend_from_slice(b" limit=")?;
-    push_decimal(alloc, text, limit)
+    push_decimal(alloc, text, overrun.limit)
 }
 
 fn push_disposed(alloc: Global, text: &mut Vec<u8>, first: bool, ticks: u32) -> Result<(), NoMemory>

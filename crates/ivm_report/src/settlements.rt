@@ -61,5 +61,5 @@ fn first_disposal(journal: &[Entry]) -> Option<usize>
 fn is_disposal(outcome: &Outcome) -> bool
     ensures { result ≡ is_disposal outcome.now }
 {
-    matches!(outcome, Outcome::MemoryLimit { .. } | Outcome::Disposed(_))
+    matches!(outcome, Outcome::MemoryLimit(_) | Outcome::Disposed(_))
 }

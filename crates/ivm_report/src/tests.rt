@@ -5,8 +5,8 @@ use crate::report;
 use crate::values::push_string;
 use host_syntax::{Command, HostScript, What};
 use ivm_text::{
-    Copy, CopyNode, Handle, Items, Leaf, Passed, Refusal, RefusalKind, TypeOf, Uncopyable, Units,
-    Want,
+    Copy, CopyNode, Handle, Items, Leaf, Overrun, Passed, Refusal, RefusalKind, TypeOf, Uncopyable,
+    Units, Want,
 };
 use std::alloc::Global;
 use std::test::Fail;
@@ -100,11 +100,11 @@ fn values_are_told_as_they_were_wanted(rt: HostRuntime) -> Result<(), Fail> {
 #[test]
 fn outcomes_are_told_with_their_numbers(rt: HostRuntime) -> Result<(), Fail> {
     let alloc = rt.alloc();
-    let limit = Outcome::MemoryLimit {
+    let limit = Outcome::MemoryLimit(Overrun {
         charged: 1000,
         asked: 1,
         limit: 1000,
-    };
+    });
     let refusal = Outcome::Syntax(Refusal {
         kind: RefusalKind::OutOfProfile,
         place: 12,

@@ -1,7 +1,7 @@
 //! What comes of a task, and what an isolate sends to its host.
 
 use crate::Act;
-use ivm_text::{CloneWhole, Copy, Handle, Items, Passed, Refusal, Uncopyable};
+use ivm_text::{CloneWhole, Copy, Handle, Items, Overrun, Passed, Refusal, Uncopyable};
 use std::alloc::{AllocError, Global};
 
 /// Copies, in order.
@@ -20,10 +20,7 @@ pub enum By {
 #[derive(Debug, Drop)]
 pub enum Outcome {
     /// A context was made; `row` is the row of its global object.
-    Context {
-        context: u32,
-        row: u32,
-    },
+    Context { context: u32, row: u32 },
     /// A script was made.
     Script(u32),
     /// It gave this value.
@@ -37,11 +34,7 @@ pub enum Outcome {
     /// It would have taken more than this many ticks.
     Timeout(u32),
     /// It would have taken more cells than the isolate may have, which ended it.
-    MemoryLimit {
-        charged: u32,
-        asked: u32,
-        limit: u32,
-    },
+    MemoryLimit(Overrun),
     /// The isolate has ended.
     Disposed(By),
     /// A `derefInto` of another isolate was to be resolved.
@@ -96,15 +89,7 @@ impl CloneWhole for Outcome {
             Outcome::Throw(copy) => Ok(Outcome::Throw(copy.clone_whole(alloc)?)),
             Outcome::Syntax(refusal) => Ok(Outcome::Syntax(refusal.clone_whole(alloc)?)),
             Outcome::Timeout(ticks) => Ok(Outcome::Timeout(*ticks)),
-            Outcome::MemoryLimit {
-                charged,
-                asked,
-                limit,
-            } => Ok(Outcome::MemoryLimit {
-                charged: *charged,
-                asked: *asked,
-                limit: *limit,
-            }),
+            Outcome::MemoryLimit(overrun) => Ok(Outcome::MemoryLimit(*overrun)),
             Outcome::Disposed(by) => Ok(Outcome::Disposed(*by)),
             Outcome::WrongIsolate => Ok(Outcome::WrongIsolate),
             Outcome::NotTransferable => Ok(Outcome::NotTransferable),
