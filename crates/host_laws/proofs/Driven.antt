@@ -126,6 +126,13 @@ module _ (script : HostScript) (stand : Stand) (cells : List Kept) (whole : IsWh
       let same = ap (λ (s : HostScript). length s.commands) script_of_cells in
       grind (arith, fewer, same)
 
+  -- a host that can't go on has the same script
+  pub ends_with_script : (next : Stand) (m : Move) (given : HostScript) → (m, next) ≡ turn stand → m ≡ Blocked → given ≡ next.script → given ≡ script
+  ends_with_script next m given is blocked back =
+      let none : (turn stand).0 ≡ Blocked = sym (ap (λ x. x.0) is) ∙ blocked in
+      let same : next ≡ stand = ap (λ x. x.1) is ∙ turn_blocked stand none in
+      back ∙ ap (λ (s : Stand). s.script) same ∙ script_of_cells
+
   pub count_cells : length cells ≡ length script.isolates
   count_cells = sym (length-map cells worker_of) ∙ holds.count
 

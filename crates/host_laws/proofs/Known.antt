@@ -56,7 +56,7 @@ pub record IsAnswer (done : List Task) (n : ℕ) (out : Outcome) : Type 0 where
   pub makes : task.kind ≡ kind.Context → AnswersContext out
 
 limit_tells : (out : Outcome) → IsMemoryLimit out → is_disposal out ≡ true
-limit_tells (outcome.MemoryLimit charged asked limit) passed = refl
+limit_tells (outcome.MemoryLimit told) passed = refl
 limit_tells _ passed = absurd passed
 
 context_answer : (state : State) (out : Outcome) → IsContextReply state out → AnswersContext out

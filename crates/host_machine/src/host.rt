@@ -6,19 +6,19 @@ ghost use Rattle.host_meaning.specs.Machine.{MayReceive, asking, drawing, hearin
 ghost use Rattle.host_machine.specs.Asked.{isolate_asked, task_asked};
 ghost use Rattle.host_machine.specs.Next.{IsWithinNext, by_what, done};
 ghost use Rattle.host_machine.specs.Ledger.{IsWithin};
-ghost use Rattle.host_machine.specs.Replied.{replied};
+ghost use Rattle.host_machine.specs.Replied.{answer_in, replied};
 ghost use Rattle.host_machine.specs.Tally.{isolate_in};
 
 use crate::calls::Calls;
 use crate::command::{argument_of, context_in, held_by, isolate_of, row_in};
 use crate::last::drop_last;
 use crate::ledger::Ledger;
-use host_meaning::{Held, Move};
+use host_meaning::{Held, Move, Posting};
 use host_syntax::{HostScript, What};
 use ivm_text::{CloneWhole, Items, NoMemory};
 use std::alloc::{AllocError, Global};
 use std::marker::Model;
-use task_history::{Act, Event, History, Out, Outcome, Own, Settlement, Task, TaskKind};
+use task_history::{Act, Event, History, Out, Own, Settlement, Task, TaskKind};
 
 /// After so many numbers a call draws none.
 const MOST_CALLS: u32 = 100_000;
@@ -39,13 +39,6 @@ enum Next {
     Post { isolate: u32, task: Task },
     /// The isolate is to stop.
     Ask { isolate: u32 },
-}
-
-/// A task that follows from an out, to be handed to an isolate.
-#[derive(Debug, Drop)]
-pub struct Posting {
-    pub isolate: u32,
-    pub task: Task,
 }
 
 /// The host machine: where it stands in its script, and what it has noted.
@@ -105,12 +98,13 @@ impl Host {
             && self.ledger.have_answered()
     }
 
-    /// The events, the first first.
-    pub fn into_history(self) -> History
-        ensures { result ≡ self.history }
+    /// The script, and the events, the first first.
+    pub fn into_parts(self) -> (HostScript, History)
+        ensures script { result.0 ≡ self.script }
+        ensures history { result.1 ≡ self.history }
     {
-        let Host { ledger, .. } = self;
-        ledger.into_events()
+        let Host { script, ledger, .. } = self;
+        (script, ledger.into_events())
     }
 
     // ---- the next command
@@ -344,18 +338,15 @@ impl Host {
     /// Receives an out of an isolate. A reply to an open call settles it. No out that an isolate sends yet has a
     /// task follow from it, so the answer is `None`.
     /// It is refused for want of memory alone, and then leaves all as it was.
-    pub fn receive(&mut self, isolate: u32, out: &Out) -> Result<Option<Posting>, NoMemory>
-        requires { MayReceive self.old.script isolate out.now }
-        ensures ok { OnOk result (self.new ≡ received self.old isolate out.now) }
+    pub fn receive(&mut self, isolate: u32, out: Out) -> Result<Option<Posting>, NoMemory>
+        requires { MayReceive self.old.script isolate out }
+        ensures ok { OnOk result (self.new ≡ received self.old isolate out) }
         ensures err { OnErr result (self.new ≡ self.old) }
         ensures follows { IfOk result (λ posting. posting ≡ None) }
     {
-        match out {
-            Out::Reply {
-                call: Some(call),
-                outcome,
-            } => self.receive_reply(isolate, out, *call, outcome)?,
-            _ => self.hear(isolate, out)?,
+        match answer_in(&out) {
+            Some((call, held)) => self.receive_reply(isolate, out, call, held)?,
+            None => self.hear(isolate, out)?,
         }
         Ok(None)
     }
@@ -364,34 +355,43 @@ impl Host {
     fn receive_reply(
         &mut self,
         isolate: u32,
-        out: &Out,
+        out: Out,
         call: u32,
-        outcome: &Outcome,
+        held: Held,
     ) -> Result<(), AllocError>
         requires { isolate < length self.old.script.isolates }
-        ensures ok { OnOk result (self.new ≡ replied self.old isolate out.now call outcome.now) }
+        ensures ok { OnOk result (self.new ≡ replied self.old isolate out call held) }
         ensures err { OnErr result (self.new ≡ self.old) }
     {
         if !self.calls.is_open(call) {
             return self.hear(isolate, out);
         }
-        let heard = out.clone_whole(self.alloc)?;
-        self.ledger.add_settled(isolate, heard, call)?;
-        self.calls.settle(call, held_by(outcome));
+        self.ledger.add_settled(isolate, out, call)?;
+        self.calls.settle(call, held);
         Ok(())
     }
 
     /// Notes the receipt alone.
-    fn hear(&mut self, isolate: u32, out: &Out) -> Result<(), AllocError>
+    fn hear(&mut self, isolate: u32, out: Out) -> Result<(), AllocError>
         requires { isolate < length self.old.script.isolates }
-        ensures ok { OnOk result (self.new ≡ hearing self.old isolate out.now) }
+        ensures ok { OnOk result (self.new ≡ hearing self.old isolate out) }
         ensures err { OnErr result (self.new ≡ self.old) }
     {
-        let heard = out.clone_whole(self.alloc)?;
-        self.ledger.add(Event::Recv {
-            isolate,
-            out: heard,
-        })
+        self.ledger.add(Event::Recv { isolate, out })
+    }
+}
+
+/// The call that an out answers, with what the settlement by its outcome holds.
+fn answer_in(out: &Out) -> Option<(u32, Held)>
+    ensures { result ≡ answer_in out.now }
+{
+    match out {
+        Out::Reply {
+            call: Some(call),
+            outcome,
+        } => Some((*call, held_by(outcome))),
+        Out::Reply { call: None, .. } | Out::Call { .. } | Out::Log { .. } | Out::AskTable { .. } =>
+            None,
     }
 }
 

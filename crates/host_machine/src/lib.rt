@@ -13,4 +13,4 @@ mod last;
 mod ledger;
 mod tally;
 
-pub use host::{Host, Posting};
+pub use host::Host;

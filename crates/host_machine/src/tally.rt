@@ -83,7 +83,7 @@ impl Tally {
 fn is_disposal(outcome: &Outcome) -> bool
     ensures { result ≡ is_disposal outcome.now }
 {
-    matches!(outcome, Outcome::MemoryLimit { .. } | Outcome::Disposed(_))
+    matches!(outcome, Outcome::MemoryLimit(_) | Outcome::Disposed(_))
 }
 
 /// The isolate that an event is of.

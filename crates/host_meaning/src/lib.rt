@@ -8,4 +8,4 @@
 
 mod moves;
 
-pub use moves::{Held, Move};
+pub use moves::{Held, Move, Posting};

@@ -1,4 +1,4 @@
-//! What a step of the host asks for, and what the settlement of a call holds.
+//! What the host asks for, and what the settlement of a call holds.
 
 use task_history::Task;
 
@@ -13,6 +13,13 @@ pub enum Move {
     Own,
     /// No command is left, or the next one waits for a call that isn't settled.
     Blocked,
+}
+
+/// A task that follows from an out, to be handed to an isolate.
+#[derive(Debug, Drop)]
+pub struct Posting {
+    pub isolate: u32,
+    pub task: Task,
 }
 
 /// What the settlement of a call holds for later commands.
