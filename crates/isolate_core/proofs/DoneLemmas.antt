@@ -6,7 +6,7 @@ use Rattle.charged_heap.specs.Store.{Store}
 use Rattle.charged_heap.specs.declared.fault.Fail.{Fail}
 use Rattle.charged_heap.specs.declared.fault.Fail.TheVariants as fail
 use Rattle.js_syntax.specs.declared.node.Node.{Node}
-use Rattle.js_scopes.specs.Ends.{Ends}
+use Rattle.charged_heap.specs.Ends.{Ends}
 use Rattle.script_meaning.specs.Places.{ScriptList, script_at}
 use Rattle.isolate_meaning.specs.State.{Contents}
 use Rattle.isolate_meaning.specs.Tasks.{Done, going_on, with_store}
@@ -22,7 +22,7 @@ refusal {A} contents ends failed s go is = ap (λ (e : Ends A). going_on content
   where
     by : (one : Fail) → going_on contents (Err one, s) go ≡ refused_done (with_store contents s) one
     by (fail.Throw v) = refl
-    by (fail.Over charged asked limit) = refl
+    by (fail.Over told) = refl
     by fail.NoMemory = refl
 
 -- the script that was put last

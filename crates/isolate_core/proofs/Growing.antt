@@ -1,5 +1,5 @@
 -- What a cell holds stays closed as its store grows, and what its numbers name is there.
-use Rattle.std.proofs.Common.{◌≡◌, ℕ, ◌<◌, ◌-◌, ◌+◌, List, [], ◌∷◌, ◌++◌, length, Option, Some, None, refl, arith, subst, sym, ap}
+use Rattle.std.proofs.Common.{◌≡◌, ℕ, ◌<◌, ◌-◌, ◌+◌, List, [], ◌∷◌, ◌++◌, length, Option, Some, None, Ok, Err, refl, arith, subst, sym, ap}
 use Rattle.std.specs.Prelude.{slice_index_or, IfSome}
 use Rattle.std.specs.List.{All}
 use Rattle.std.proofs.lemmas.List.Elements.{All-nil, All-cons, All-append}
@@ -11,10 +11,13 @@ use Rattle.ivm_text.specs.declared.copies.Leaf.TheVariants as leaf
 use Rattle.ivm_text.specs.declared.copies.Passed.{Passed}
 use Rattle.ivm_text.specs.declared.copies.Passed.TheVariants as passed
 use Rattle.charged_heap.specs.Closed.{IsClosed as IsClosedStore, IsSound, IsSoundValue}
+use Rattle.charged_heap.specs.Ends.{Ends, and_then}
 use Rattle.charged_heap.specs.Growth.{Grows}
 use Rattle.charged_heap.specs.Store.{Store, IsAt, item_at, kind_of, properties}
+use Rattle.charged_heap.specs.declared.fault.Fail.{Fail}
 use Rattle.charged_heap.specs.declared.item.Item.{Item}
 use Rattle.charged_heap.specs.declared.item.Item.TheVariants as item
+use Rattle.charged_heap.specs.declared.item.ItemKind.{ItemKind}
 use Rattle.charged_heap.specs.declared.values.Value.{Value}
 use Rattle.charged_heap.specs.declared.values.Value.TheVariants as value
 use Rattle.charged_heap.proofs.GrowthLaws.{grows-refl, grows_then, at_grows}
@@ -62,6 +65,10 @@ context_joins s t contexts later scripts rows others context row added listed gr
 
 -- ---- what is there
 
+-- an item that was made, and is of its own kind
+pub made_there : (wanted : ItemKind → Type 0) (s : Store) (n : ℕ) (one : Item) → n < length s.items → item_at s n ≡ one → wanted (kind_of one) → IsAt wanted s n
+made_there wanted s n one there is fits = record { there = there; fits = subst (λ (found : Item). wanted (kind_of found)) (sym is) fits }
+
 -- the names and the global object of a context
 pub context_there : (contents : Contents) (n : ℕ) → AreClosed contents → n < length contents.contexts → IsClosedContext contents.store (context_at contents n)
 context_there contents n closed within = closed.contexts n no_context within
@@ -108,6 +115,18 @@ passed_sound s (passed.External copy) = leaf_sound s copy.root
 passed_sound s (passed.Ref handle) = tt
 passed_sound s (passed.Deref handle) = tt
 passed_sound s (passed.Callback number) = tt
+
+-- ---- one call after another
+
+-- it goes on with what was given
+pub then_given : {A B : Type 0} (ends : Ends A) (a : A) (s : Store) (next : A → Store → Ends B) → ends ≡ (Ok a, s) → and_then ends next ≡ next a s
+then_given {A} ends a s next is = ap (λ (e : Ends A). and_then e next) is
+
+-- or it ends as it was refused
+pub then_refused : {A B : Type 0} (ends : Ends A) (failed : Fail) (s : Store) (next : A → Store → Ends B) → ends ≡ (Err failed, s) → and_then ends next ≡ (Err failed, s)
+then_refused {A} ends failed s next is = ap (λ (e : Ends A). and_then e next) is
+
+pub ruleset sequences = (then_given, then_refused)
 
 pub ruleset growing = (grows_then, grows-refl, at_grows, value_grows, global_held)
 

@@ -13,9 +13,9 @@ use Rattle.isolate_core.specs.Contents.{contents_of}
 
 abbrev pub done_of : Held → Done
 done_of (Lives contents out ticks) = lives (contents_of contents) out ticks
-done_of (Over charged asked limit ticks cells) = record {
+done_of (Over told ticks cells) = record {
   state = ended Memory;
-  out = outcome.MemoryLimit charged asked limit;
+  out = outcome.MemoryLimit told;
   ticks = ticks;
   cells = cells;
 }
@@ -23,5 +23,5 @@ done_of (Over charged asked limit ticks cells) = record {
 -- what comes of a task whose call over the heap gave nothing
 abbrev pub refused_done : Contents → Fail → Done
 refused_done contents (fail.Throw v) = lives contents (thrown contents.store v) 0
-refused_done contents (fail.Over charged asked limit) = over contents.store charged asked limit 0
+refused_done contents (fail.Over told) = over contents.store told 0
 refused_done contents fail.NoMemory = lives contents outcome.Done 0

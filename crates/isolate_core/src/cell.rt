@@ -64,11 +64,11 @@ impl Cell {
     /// on a live isolate what the task asks for, and on one that has ended `Disposed` with the cause of its end. A task
     /// whose next charge would pass the limit is told so and ends the isolate, whose items are gone. After `NoMemory` the
     /// cell is void: its journal stays, its state is gone, and each later task is refused so.
-    pub fn perform(&mut self, task: &Task) -> Result<(), NoMemory>
-        requires { MayPerform self.old task.now }
+    pub fn perform(&mut self, task: Task) -> Result<(), NoMemory>
+        requires { MayPerform self.old task }
 
-        ensures ok { OnOk result (Performs task.now self.old self.new) }
-        ensures only { OnOk result (IsOnlyPerformance task.now self.old self.new) }
+        ensures ok { OnOk result (Performs task self.old self.new) }
+        ensures only { OnOk result (IsOnlyPerformance task self.old self.new) }
         ensures err { OnErr result (self.new ≡ void self.old) }
 
         ensures void { self.old.state ≡ None → IsErr result }

@@ -1,9 +1,9 @@
 //! The contexts of a live isolate, and how one is made.
-ghost use Rattle.std.specs.Prelude.{◌≡◌, [], None, IfErr, IfOk};
-ghost use Rattle.charged_heap.specs.Closed.{IsClosed as IsClosedStore, IsSoundValue};
+ghost use Rattle.std.specs.Prelude.{◌≡◌, IfErr, IfOk};
+ghost use Rattle.charged_heap.specs.Closed.{IsClosed as IsClosedStore};
+ghost use Rattle.charged_heap.specs.Ends.{IsSoundFail, Meets};
 ghost use Rattle.charged_heap.specs.Growth.{Grows};
-ghost use Rattle.charged_heap.specs.Store.{IsAt, IsPlain, IsScope};
-ghost use Rattle.js_scopes.specs.Ends.{IsSoundFail, Meets, item_made};
+ghost use Rattle.charged_heap.specs.Store.{IsAt};
 ghost use Rattle.isolate_meaning.specs.State.{AreClosed, IsClosed, IsClosedContext, IsRow};
 ghost use Rattle.isolate_meaning.specs.Tasks.{context_items, context_made, with_context};
 ghost use Rattle.isolate_core.specs.Contents.{contents_of};
@@ -11,7 +11,7 @@ ghost use Rattle.isolate_core.specs.Done.{done_of};
 
 use crate::contents::Contents;
 use crate::done::{Done, refused};
-use charged_heap::{Bindings, Fail, Heap, Item, Names, Props, Value};
+use charged_heap::{Bindings, Fail, Heap, Item, Names, Props, Value, make};
 use ivm_text::NoMemory;
 use std::alloc::Global;
 use std::marker::Model;
@@ -62,51 +62,8 @@ impl Model for MadeContext {
     ghost view = { λ m. record { context = m.context; row = m.row } };
 }
 
-fn make_object(alloc: Global, heap: &mut Heap) -> Result<u32, Fail>
-    ensures meets { Meets result heap.new (item_made (Item.Plain []) heap.old) }
-
-    ensures grown { Grows heap.old heap.new }
-    ensures closed { IsClosedStore heap.old → IsClosedStore heap.new }
-    ensures object { IfOk result (IsAt IsPlain heap.new) }
-    ensures thrown { IfErr result (IsSoundFail heap.new) }
-{
-    let properties = Props::new(alloc).map_err(|_| Fail::NoMemory)?;
-    let number = heap.add(Item::Plain(properties))?;
-    Ok(number)
-}
-
-fn make_names(alloc: Global, heap: &mut Heap) -> Result<u32, Fail>
-    ensures meets { Meets result heap.new (item_made (Item.Scope None [] []) heap.old) }
-
-    ensures grown { Grows heap.old heap.new }
-    ensures closed { IsClosedStore heap.old → IsClosedStore heap.new }
-    ensures names { IfOk result (IsAt IsScope heap.new) }
-    ensures thrown { IfErr result (IsSoundFail heap.new) }
-{
-    let number = heap.add(Item::Scope {
-        parent: None,
-        bindings: Bindings::new(alloc),
-        functions: Names::new(alloc),
-    })?;
-    Ok(number)
-}
-
-fn make_row(heap: &mut Heap, value: Value) -> Result<u32, Fail>
-    requires { IsSoundValue heap.old value }
-
-    ensures meets { Meets result heap.new (item_made (Item.Row value) heap.old) }
-
-    ensures grown { Grows heap.old heap.new }
-    ensures closed { IsClosedStore heap.old → IsClosedStore heap.new }
-    ensures row { IfOk result (IsAt IsRow heap.new) }
-    ensures thrown { IfErr result (IsSoundFail heap.new) }
-{
-    let number = heap.add(Item::Row(value))?;
-    Ok(number)
-}
-
 /// Makes an empty object, a scope without names, and a row of the object, one after the other.
-#[tactic(auto, using(crate::proofs::Growing::growing))]
+#[tactic(auto, using(crate::proofs::Growing::growing, crate::proofs::Growing::made_there, crate::proofs::Growing::sequences))]
 fn context_items(alloc: Global, heap: &mut Heap) -> Result<MadeContext, Fail>
     requires { IsClosedStore heap.old }
 
@@ -118,11 +75,19 @@ fn context_items(alloc: Global, heap: &mut Heap) -> Result<MadeContext, Fail>
     ensures row { IfOk result (λ made. IsAt IsRow heap.new made.row) }
     ensures thrown { IfErr result (IsSoundFail heap.new) }
 {
-    let global = make_object(alloc, heap)?;
-    let names = make_names(alloc, heap)?;
-    let row = make_row(heap, Value::Item(global))?;
+    let properties = Props::new(alloc)?;
+    let global = make(heap, Item::Plain(properties))?;
+    let scope = Item::Scope {
+        parent: None,
+        bindings: Bindings::new(alloc),
+        functions: Names::new(alloc),
+    };
+    let names = make(heap, scope)?;
     let context = Context { names, global };
-    Ok(MadeContext { context, row })
+    match make(heap, Item::Row(Value::Item(global))) {
+        Ok(row) => Ok(MadeContext { context, row }),
+        Err(fail) => Err(fail),
+    }
 }
 
 /// Puts a context that was made, and the row of its global object, behind the others.

@@ -3,12 +3,12 @@ ghost use Rattle.std.specs.Prelude.{◌≡◌, ◌≢◌, IfOk};
 ghost use Rattle.isolate_meaning.specs.State.{AreClosed, IsClosed};
 ghost use Rattle.isolate_core.specs.Contents.{contents_of};
 ghost use Rattle.isolate_core.specs.Done.{done_of, refused_done};
-ghost use Rattle.js_scopes.specs.Ends.{IsSoundFail};
+ghost use Rattle.charged_heap.specs.Ends.{IsSoundFail};
 
 use crate::contents::Contents;
 use crate::values::thrown;
 use charged_heap::Fail;
-use ivm_text::NoMemory;
+use ivm_text::{NoMemory, Overrun};
 use std::alloc::Global;
 use task_history::Outcome;
 
@@ -23,9 +23,7 @@ pub(crate) enum Done {
     },
     /// The cells asked would have passed the limit, which ends the isolate; so many were charged then.
     Over {
-        charged: u32,
-        asked: u32,
-        limit: u32,
+        overrun: Overrun,
         ticks: u32,
         cells: u32,
     },
@@ -50,14 +48,8 @@ pub(crate) fn refused(alloc: Global, contents: Contents, fail: Fail) -> Result<D
                 ticks: 0,
             })
         }
-        Fail::Over {
-            charged,
-            asked,
-            limit,
-        } => Ok(Done::Over {
-            charged,
-            asked,
-            limit,
+        Fail::Over(overrun) => Ok(Done::Over {
+            overrun,
             ticks: 0,
             cells: contents.heap.charged(),
         }),

@@ -9,12 +9,12 @@ use task_history::{Entry, Out, Outcome, Task};
 /// The entry of a task with this outcome, its ticks and the cells that are charged: its one out is the reply.
 pub(crate) fn entry_of(
     alloc: Global,
-    task: &Task,
+    task: Task,
     outcome: Outcome,
     ticks: u32,
     cells: u32,
 ) -> Result<Entry, NoMemory>
-    ensures { IfOk result (λ entry. entry ≡ entry_of task.now outcome ticks cells) }
+    ensures { IfOk result (λ entry. entry ≡ entry_of task outcome ticks cells) }
 {
     let reply = Out::Reply {
         call: task.call,
@@ -23,7 +23,7 @@ pub(crate) fn entry_of(
     let mut outs = Items::new(alloc);
     outs.push(reply)?;
     Ok(Entry {
-        task: Some(task.clone_whole(alloc)?),
+        task: Some(task),
         outcome,
         ticks,
         cells,

@@ -25,9 +25,9 @@ pub(crate) enum Life {
 }
 
 /// The state after a task of a live isolate, and the task's entry. At the limit in cells the isolate has ended.
-fn told(alloc: Global, task: &Task, done: Done) -> Result<(Life, Entry), NoMemory>
+fn told(alloc: Global, task: Task, done: Done) -> Result<(Life, Entry), NoMemory>
     ensures state { IfOk result (λ end. state_of end.0 ≡ Some (done_of done).state) }
-    ensures entry { IfOk result (λ end. end.1 ≡ entry_of task.now (done_of done).out (done_of done).ticks (done_of done).cells) }
+    ensures entry { IfOk result (λ end. end.1 ≡ entry_of task (done_of done).out (done_of done).ticks (done_of done).cells) }
 {
     match done {
         Done::Lives {
@@ -40,17 +40,11 @@ fn told(alloc: Global, task: &Task, done: Done) -> Result<(Life, Entry), NoMemor
             Ok((Life::Live(contents), entry))
         }
         Done::Over {
-            charged,
-            asked,
-            limit,
+            overrun,
             ticks,
             cells,
         } => {
-            let outcome = Outcome::MemoryLimit {
-                charged,
-                asked,
-                limit,
-            };
+            let outcome = Outcome::MemoryLimit(overrun);
             let entry = entry_of(alloc, task, outcome, ticks, cells)?;
             Ok((Life::Ended(By::Memory), entry))
         }
@@ -59,11 +53,11 @@ fn told(alloc: Global, task: &Task, done: Done) -> Result<(Life, Entry), NoMemor
 
 /// Carries a task out, and gives the state after it with the task's entry. A live isolate does what the task
 /// asks for, within the task's ticks; one that has ended refuses it, with the cause of its end; a void cell finds no memory.
-pub(crate) fn carry_out(alloc: Global, life: Life, task: &Task) -> Result<(Life, Entry), NoMemory>
-    requires fits { FitsUnlessVoid (state_of life) task.now }
+pub(crate) fn carry_out(alloc: Global, life: Life, task: Task) -> Result<(Life, Entry), NoMemory>
+    requires fits { FitsUnlessVoid (state_of life) task }
     requires closed { IsClosedLife (state_of life) }
 
-    ensures { IfOk result (λ done. CarriesOut task.now life done.0 done.1) }
+    ensures { IfOk result (λ done. CarriesOut task life done.0 done.1) }
 {
     match life {
         Life::Live(contents) => {

@@ -1,8 +1,5 @@
 //! Texts of tasks: how they are read and run.
-ghost use Rattle.std.specs.Prelude.{◌≡◌, ◌-◌, ◌<◌, ◌^◌, IfErr, IfOk, length};
-ghost use Rattle.charged_heap.specs.Closed.{IsClosed as IsClosedStore};
-ghost use Rattle.charged_heap.specs.Growth.{Grows};
-ghost use Rattle.js_scopes.specs.Ends.{IsSoundFail, Meets, item_made};
+ghost use Rattle.std.specs.Prelude.{◌≡◌, ◌-◌, ◌<◌, ◌^◌, IfOk, length};
 ghost use Rattle.script_eval.specs.Runs.{IsSoundCompletion, root_of};
 ghost use Rattle.script_meaning.specs.Places.{script_at};
 ghost use Rattle.js_scripts.specs.Text.{script as script_reading};
@@ -15,7 +12,7 @@ ghost use Rattle.isolate_core.specs.Done.{done_of};
 use crate::contents::Contents;
 use crate::done::{Done, refused};
 use crate::values::{result, thrown};
-use charged_heap::{Fail, Heap, Item};
+use charged_heap::{Item, make};
 use ivm_text::NoMemory;
 use js_parser::SyntaxFault;
 use js_scripts::read_script;
@@ -43,17 +40,9 @@ fn run_done(
         Completion::Normal(value) => result(alloc, &contents.heap, value)?,
         Completion::Throw(value) => thrown(alloc, &contents.heap, value)?,
         Completion::Stop(StopCause::Timeout) => Outcome::Timeout(ticks),
-        Completion::Stop(
-            StopCause::Memory {
-                charged,
-                asked,
-                limit,
-            },
-        ) => {
+        Completion::Stop(StopCause::Memory(overrun)) => {
             return Ok(Done::Over {
-                charged,
-                asked,
-                limit,
+                overrun,
                 ticks,
                 cells: contents.heap.charged(),
             });
@@ -96,18 +85,6 @@ fn run_last(
     run_done(alloc, contents, completion, ticks)
 }
 
-/// Makes the item that a script is charged as.
-fn make_script(heap: &mut Heap, script: u32) -> Result<u32, Fail>
-    ensures meets { Meets result heap.new (item_made (Item.Script script) heap.old) }
-
-    ensures grown { Grows heap.old heap.new }
-    ensures closed { IsClosedStore heap.old → IsClosedStore heap.new }
-    ensures thrown { IfErr result (IsSoundFail heap.new) }
-{
-    let number = heap.add(Item::Script(script))?;
-    Ok(number)
-}
-
 /// Charges a script, keeps it behind the others, and runs it in a context within so many ticks.
 #[tactic(auto, unfolding(isolate_meaning::specs::Tasks::text_run), using(crate::proofs::Growing::contents, crate::proofs::DoneLemmas::dones, crate::proofs::DoneLemmas::last_script))]
 fn run_checked(
@@ -124,7 +101,7 @@ fn run_checked(
     ensures closed { IfOk result (λ done. IsClosed (done_of done).state) }
 {
     let script = contents.scripts.len();
-    match make_script(&mut contents.heap, script) {
+    match make(&mut contents.heap, Item::Script(script)) {
         Ok(_) => {
             contents.scripts.push(checked)?;
             run_last(alloc, contents, budget, number)

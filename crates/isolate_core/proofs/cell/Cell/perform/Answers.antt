@@ -10,11 +10,11 @@ carry_out-requires-clause-closed c =
 
 pub invariant_of-self-2 : goal.invariant_of-self-2
 invariant_of-self-2 c =
-    performed_whole c.texts_are_read_once.ensures c.args.task.now c.self.inside.isolate c.self.inside.limit c.self.inside.ledger c.push.new.self c.self.inside.life c.in_ok-life.life c.in_ok-life.entry
-    c.self.invariant (subst (λ kept. MayPerform kept c.args.task.now) (sym c.self.view_is) c.requires) (subst (λ life. CarriesOut c.args.task.now life c.in_ok-life.life c.in_ok-life.entry) c.replace-life.ensures.value c.in_ok-life.ensures)
+    performed_whole c.texts_are_read_once.ensures c.args.task c.self.inside.isolate c.self.inside.limit c.self.inside.ledger c.push.new.self c.self.inside.life c.in_ok-life.life c.in_ok-life.entry
+    c.self.invariant (subst (λ kept. MayPerform kept c.args.task) (sym c.self.view_is) c.requires) (subst (λ life. CarriesOut c.args.task life c.in_ok-life.life c.in_ok-life.entry) c.replace-life.ensures.value c.in_ok-life.ensures)
     c.in_ok-push.ensures.ok
 
 pub returns-clause-only : goal.returns-clause-only
 returns-clause-only c =
-    only_after c.texts_are_read_once.ensures c.args.task.now c.self.inside.isolate c.self.inside.limit c.self.inside.ledger c.push.new.self c.self.inside.life c.in_ok-life.life c.in_ok-life.entry
-    c.args.self.now c.self.view_is c.requires (subst (λ life. CarriesOut c.args.task.now life c.in_ok-life.life c.in_ok-life.entry) c.replace-life.ensures.value c.in_ok-life.ensures) c.in_ok-push.ensures.ok
+    only_after c.texts_are_read_once.ensures c.args.task c.self.inside.isolate c.self.inside.limit c.self.inside.ledger c.push.new.self c.self.inside.life c.in_ok-life.life c.in_ok-life.entry
+    c.args.self.now c.self.view_is c.requires (subst (λ life. CarriesOut c.args.task life c.in_ok-life.life c.in_ok-life.entry) c.replace-life.ensures.value c.in_ok-life.ensures) c.in_ok-push.ensures.ok
