@@ -1,6 +1,7 @@
 //! What isolates answer, as rows name it.
 
 use anyhow::{Error, bail};
+use ivm_text::Overrun;
 use task_history::{By, Outcome};
 use test_tables::Row;
 
@@ -20,11 +21,11 @@ pub fn outcome_of(row: &Row) -> Result<Outcome, Error> {
             row: row.field(5)?.parse::<u32>()?,
         }),
         "done" => Ok(Outcome::Done),
-        "out of cells" => Ok(Outcome::MemoryLimit {
+        "out of cells" => Ok(Outcome::MemoryLimit(Overrun {
             charged: 1,
             asked: 2,
             limit: 2,
-        }),
+        })),
         "disposed by Host" => Ok(Outcome::Disposed(By::Host)),
         _ => bail!("{}: no such answer", row.place),
     }

@@ -94,7 +94,7 @@ fn said_of_outcome(alloc: Global, outcome: &Outcome) -> Result<String, Error> {
     match outcome {
         Outcome::Context { context, row } => Ok(format!(in alloc; "context {context} row {row}")?),
         Outcome::Done => Ok(String::from_str(alloc, "done")?),
-        Outcome::MemoryLimit { .. } => Ok(String::from_str(alloc, "out of cells")?),
+        Outcome::MemoryLimit(_) => Ok(String::from_str(alloc, "out of cells")?),
         Outcome::Disposed(by) => Ok(format!(in alloc; "disposed by {by:?}")?),
         _ => Ok(String::from_str(alloc, "another outcome")?),
     }

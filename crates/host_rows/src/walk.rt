@@ -27,7 +27,7 @@ fn run_walk(rt: &HostRuntime, tally: &mut Tally, walk: &Table) -> Result<(), Err
     for row in walk.rows.as_slice() {
         take_turn(rt, tally, &mut host, row)?;
     }
-    let history = host.into_history();
+    let (_script, history) = host.into_parts();
     let mut place = 0;
     for row in walk.rows.as_slice() {
         if row.field(0)? == "event" {
@@ -100,7 +100,7 @@ fn receive(rt: &HostRuntime, tally: &mut Tally, host: &mut Host, row: &Row) -> R
         bail!("{}: no isolate {isolate}", row.place);
     }
     let reply = Out::Reply { call, outcome };
-    let told = match host.receive(isolate, &reply)? {
+    let told = match host.receive(isolate, reply)? {
         Some(_posting) => "a task",
         None => "no task",
     };

@@ -10,31 +10,39 @@ use host_machine::Host;
 use host_meaning::Move;
 use host_syntax::{HostScript, IsolateDecl};
 use isolate_core::Cell;
-use ivm_text::{Items, NoMemory};
+use ivm_text::{CloneWhole, Items, NoMemory};
 use std::alloc::Global;
 use task_history::{Journals, Out, Record, Task};
 
-/// The record of a whole run of the script.
-pub fn carry_out(alloc: Global, script: &HostScript) -> Result<Record, NoMemory>
-    requires { IsWhole script.now }
-    ensures { IfOk result (λ kept. IsLawful script.now kept) }
+/// The script again, and the record of a whole run of it.
+pub fn carry_out(alloc: Global, script: HostScript) -> Result<(HostScript, Record), NoMemory>
+    requires { IsWhole script }
+    ensures script { IfOk result (λ ran. ran.0 ≡ script) }
+    ensures lawful { IfOk result (λ ran. IsLawful script ran.1) }
 {
     let mut cells = fresh_cells(alloc, script.isolates.as_slice())?;
-    let mut host = Host::new(alloc, script.clone_whole(alloc)?)?;
+    let mut host = Host::new(alloc, script)?;
     'commands: loop {
         match host.step()? {
             Move::Blocked => break,
             Move::Own => {}
             Move::Post { isolate, task } => {
-                perform(&mut host, &mut cells[isolate as usize], isolate, task)?
+                perform(
+                    alloc,
+                    &mut host,
+                    &mut cells[isolate as usize],
+                    isolate,
+                    task,
+                )?
             }
-            Move::Ask { isolate } => stop(&mut host, &mut cells[isolate as usize], isolate)?,
+            Move::Ask { isolate } => {
+                stop(alloc, &mut host, &mut cells[isolate as usize], isolate)?
+            }
         }
     }
-    Ok(Record {
-        host: host.into_history(),
-        isolates: journals(alloc, cells)?,
-    })
+    let isolates = journals(alloc, cells)?;
+    let (script, host) = host.into_parts();
+    Ok((script, Record { host, isolates }))
 }
 
 // A fresh cell for each isolate, in the order of their numbers.
@@ -50,58 +58,71 @@ fn fresh_cells(alloc: Global, decls: &[IsolateDecl]) -> Result<Vec<Cell>, NoMemo
 }
 
 // Performs a task, and has the host receive all that it sent out.
-fn perform(host: &mut Host, cell: &mut Cell, isolate: u32, task: Task) -> Result<(), NoMemory>
+fn perform(
+    alloc: Global,
+    host: &mut Host,
+    cell: &mut Cell,
+    isolate: u32,
+    task: Task,
+) -> Result<(), NoMemory>
     requires fits { MayPerform cell.old task }
     requires within { isolate < length host.old.script.isolates }
     ensures cell { OnOk result (Performs task cell.old cell.new) }
     ensures host { OnOk result (host.new ≡ received_all host.old isolate (outs_at cell.new.journal (length cell.old.journal))) }
 {
     let place = cell.journal().len();
-    cell.perform(&task)?;
-    receive_from(host, cell, isolate, place)
+    cell.perform(task)?;
+    receive_from(alloc, host, cell, isolate, place)
 }
 
 // Stops an isolate, and has the host receive all that it sent out.
-fn stop(host: &mut Host, cell: &mut Cell, isolate: u32) -> Result<(), NoMemory>
+fn stop(alloc: Global, host: &mut Host, cell: &mut Cell, isolate: u32) -> Result<(), NoMemory>
     requires within { isolate < length host.old.script.isolates }
     ensures cell { cell.new ≡ stopped cell.old }
     ensures host { OnOk result (host.new ≡ received_all host.old isolate (outs_at cell.new.journal (length cell.old.journal))) }
 {
     let place = cell.journal().len();
     cell.dispose();
-    receive_from(host, cell, isolate, place)
+    receive_from(alloc, host, cell, isolate, place)
 }
 
 // Has the host receive the outs of the entry at a place, if there is one.
-fn receive_from(host: &mut Host, cell: &Cell, isolate: u32, place: usize) -> Result<(), NoMemory>
+fn receive_from(
+    alloc: Global,
+    host: &mut Host,
+    cell: &Cell,
+    isolate: u32,
+    place: usize,
+) -> Result<(), NoMemory>
     requires within { isolate < length host.old.script.isolates }
     requires replies { AreReplies (outs_at cell.now.journal place) }
     ensures { OnOk result (host.new ≡ received_all host.old isolate (outs_at cell.now.journal place)) }
 {
     match cell.journal().get(place) {
-        Some(entry) => receive_all(host, isolate, entry.outs.as_slice()),
+        Some(entry) => receive_all(alloc, host, isolate, entry.outs.as_slice()),
         None => Ok(()),
     }
 }
 
 // Has the host receive these outs of an isolate, in their order.
-fn receive_all(host: &mut Host, isolate: u32, outs: &[Out]) -> Result<(), NoMemory>
+fn receive_all(alloc: Global, host: &mut Host, isolate: u32, outs: &[Out]) -> Result<(), NoMemory>
     requires within { isolate < length host.old.script.isolates }
     requires replies { AreReplies outs.now }
     ensures { OnOk result (host.new ≡ received_all host.old isolate outs.now) }
 {
     for out in outs {
-        receive(host, isolate, out)?;
+        receive(alloc, host, isolate, out)?;
     }
     Ok(())
 }
 
-// Has the host receive one out of an isolate. No task follows from a reply.
-fn receive(host: &mut Host, isolate: u32, out: &Out) -> Result<(), NoMemory>
+// Has the host receive one out of an isolate, whose journal keeps it too. No task follows from a reply.
+fn receive(alloc: Global, host: &mut Host, isolate: u32, out: &Out) -> Result<(), NoMemory>
     requires { MayReceive host.old.script isolate out.now }
     ensures { OnOk result (host.new ≡ received host.old isolate out.now) }
 {
-    let _follows = host.receive(isolate, out)?;
+    let heard = out.clone_whole(alloc)?;
+    let _follows = host.receive(isolate, heard)?;
     Ok(())
 }
 

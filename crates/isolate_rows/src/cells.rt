@@ -51,8 +51,8 @@ fn limit_of(table: &Table) -> Result<u32, Error> {
 /// Does what a row says with the cell, if it says anything of it.
 fn take_turn(rt: &HostRuntime, tally: &mut Tally, cell: &mut Cell, row: &Row) -> Result<(), Error> {
     match row.field(0)? {
-        "context" => perform(cell, row, &context_of(row)?),
-        "eval" => perform(cell, row, &eval_of(rt.alloc(), row)?),
+        "context" => perform(cell, row, context_of(row)?),
+        "eval" => perform(cell, row, eval_of(rt.alloc(), row)?),
         "stop" => {
             cell.dispose();
             Ok(())
@@ -66,8 +66,8 @@ fn take_turn(rt: &HostRuntime, tally: &mut Tally, cell: &mut Cell, row: &Row) ->
     }
 }
 
-fn perform(cell: &mut Cell, row: &Row, task: &Task) -> Result<(), Error> {
-    if !cell.may_perform(task) {
+fn perform(cell: &mut Cell, row: &Row, task: Task) -> Result<(), Error> {
+    if !cell.may_perform(&task) {
         bail!("{}: a task that doesn't fit", row.place);
     }
     cell.perform(task)?;

@@ -1,7 +1,7 @@
 //! Entries of a journal as text.
 
 use anyhow::Error;
-use ivm_text::{Copy, Leaf, Passed};
+use ivm_text::{Copy, Leaf, Overrun, Passed};
 use std::alloc::Global;
 use task_history::{Entry, Out, Outcome};
 
@@ -38,11 +38,13 @@ fn told_of_outcome(alloc: Global, outcome: &Outcome) -> Result<String, Error> {
         Outcome::Passed(Passed::Copy(copy)) => told_of_copy(alloc, copy)?,
         Outcome::Syntax(refusal) => format!(in alloc; "refused at {}", refusal.place)?,
         Outcome::Timeout(ticks) => format!(in alloc; "timeout {ticks}")?,
-        Outcome::MemoryLimit {
-            charged,
-            asked,
-            limit,
-        } => format!(in alloc; "memory {charged} {asked} {limit}")?,
+        Outcome::MemoryLimit(
+            Overrun {
+                charged,
+                asked,
+                limit,
+            },
+        ) => format!(in alloc; "memory {charged} {asked} {limit}")?,
         Outcome::Disposed(by) => format!(in alloc; "ended by {by:?}")?,
         _ => String::from_str(alloc, "another outcome")?,
     })

@@ -139,7 +139,7 @@ fn prepare<S: Source>(alloc: Global, source: &mut S, kept: &mut Record) -> Resul
 {
     match read_script(alloc, source)? {
         HostRead::Script(script) => {
-            let record = carry_out(alloc, &script)?;
+            let (script, record) = carry_out(alloc, script)?;
             let text = report(alloc, &script, &record)?;
             *kept = record;
             Ok(Answer {
