@@ -1,13 +1,15 @@
 //! A script as the list of its nodes, and what its lists declare.
 
-use crate::spelling::spelled;
+use crate::spelling::{hexadecimal, spelled};
 use anyhow::Error;
+use ivm_text::Units;
 use js_syntax::{Kind, Script};
 use js_trees::{Declaration, declarations, kind, name, names, node_place, number};
 use std::alloc::Global;
 
 /// A node is `Kind@BYTE`, a number's `=VALUE`, its own name as `:NAME`, its names as `/NAME`, and the numbers of its kids.
-pub fn nodes_line(alloc: Global, script: &Script) -> Result<String, Error> {
+/// Where it has to be exact, a name is its units in hexadecimal.
+pub fn nodes_line(alloc: Global, script: &Script, exact: bool) -> Result<String, Error> {
     let mut line = String::new(alloc);
     for n in 0..script.len() {
         let between = if n == 0 { "" } else { " " };
@@ -17,29 +19,28 @@ pub fn nodes_line(alloc: Global, script: &Script) -> Result<String, Error> {
             kind(script, n),
             node_place(script, n)
         )?;
-        push_parts(alloc, &mut line, script, n)?;
+        if kind(script, n) == Kind::Num {
+            write!(line, "={}", number(script, n))?;
+        }
+        if let Some(name) = name(script, n) {
+            write!(line, ":{}", written(alloc, name, exact)?)?;
+        }
+        for name in names(script, n).as_slice() {
+            write!(line, "/{}", written(alloc, name, exact)?)?;
+        }
+        if script.node(n).kids.len() > 0 {
+            write!(line, "{:?}", script.node(n).kids.as_slice())?;
+        }
     }
     Ok(line)
 }
 
-fn push_parts(alloc: Global, line: &mut String, script: &Script, n: u32) -> Result<(), Error> {
-    if n >= script.len() {
-        return Ok(());
+fn written(alloc: Global, name: &Units, exact: bool) -> Result<String, Error> {
+    if exact {
+        hexadecimal(alloc, name)
+    } else {
+        spelled(alloc, name)
     }
-    if kind(script, n) == Kind::Num {
-        write!(line, "={}", number(script, n))?;
-    }
-    if let Some(name) = name(script, n) {
-        write!(line, ":{}", spelled(alloc, name)?)?;
-    }
-    for name in names(script, n).as_slice() {
-        write!(line, "/{}", spelled(alloc, name)?)?;
-    }
-    let kids = script.node(n).kids.as_slice();
-    if !kids.is_empty() {
-        write!(line, "{kids:?}")?;
-    }
-    Ok(())
 }
 
 /// How many nodes stand for a form, of how many there are.

@@ -105,7 +105,7 @@ fn plain_answer(alloc: Global, kind: &str, text: &[u8]) -> Result<String, Error>
 
 fn script_answer(alloc: Global, kind: &str, script: Script) -> Result<String, Error> {
     match kind {
-        "nodes" => nodes_line(alloc, &script),
+        "nodes" => nodes_line(alloc, &script, false),
         "trees" => trees_line(alloc, &script),
         "taken" => Ok(String::from_str(alloc, "taken")?),
         "checked" => checked_line(alloc, Some(script)),

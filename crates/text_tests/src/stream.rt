@@ -1,6 +1,7 @@
 //! Texts of standard input, with a zero byte between two: a line answers each of them.
 ghost use Rattle.std.specs.Prelude.{◌<◌, ◌^◌, length};
 
+use crate::nodes::nodes_line;
 use crate::refusals::{fault_line, refusal_line};
 use crate::tokens::tokens_line;
 use anyhow::{Error, bail};
@@ -64,21 +65,18 @@ fn parsed(rt: &HostRuntime, text: &[u8], timed: bool) -> Result<String, Error>
     }
 }
 
-/// The nodes of a script with all that they have, or its early fault.
+/// The nodes of a script, or its early fault.
 fn script_line(alloc: Global, script: Script) -> Result<String, Error> {
-    let checked = match early(script) {
-        Ok(checked) => checked,
+    match early(script) {
+        Ok(checked) => {
+            let nodes = nodes_line(alloc, checked.script(), true)?;
+            Ok(format!(in alloc; "script {nodes}")?)
+        }
         Err(
             EarlyFault::Refused {
                 refusal,
                 script: _script,
             },
-        ) => return refusal_line(alloc, &refusal),
-    };
-    let script = checked.script();
-    let mut line = String::from_str(alloc, "script")?;
-    for number in 0..script.len() {
-        write!(line, " {:?}", script.node(number))?;
+        ) => refusal_line(alloc, &refusal),
     }
-    Ok(line)
 }
