@@ -1,0 +1,92 @@
+//! Tests by rows, from the heap up to whole host scripts: what calls and scripts give, their ticks and their cells.
+//!
+//! Contracts see nothing here: it is a program that reads the tables of data/ and prints which rows fail.
+//! Rely on: each answer was worked out by hand from docs/SCRIPTS.md and docs/PRICES.md, or comes from outside.
+//! Over `test_tables`, `script_eval` and all under them; under no crate.
+//! Begin with README.md, then `run_table` and `src/trials.rt`.
+#![tactic(auto)]
+
+mod changes;
+mod contexts;
+mod eval;
+mod facts;
+mod made;
+mod measures;
+mod members;
+mod named;
+mod operators;
+mod printed;
+mod scope_uses;
+mod scopes;
+mod scripts;
+mod sums;
+mod trials;
+mod values;
+
+use anyhow::{Error, bail};
+use charged_heap::Heap;
+use std::env;
+use test_tables::{Table, Tally, read_tables};
+
+/// The files of data/.
+static FILES: [&str; 11] = [
+    "heap.rows",
+    "operators.rows",
+    "pairs.rows",
+    "members.rows",
+    "scopes.rows",
+    "scripts.rows",
+    "loops.rows",
+    "rounds.rows",
+    "throws.rows",
+    "finals.rows",
+    "stops.rows",
+];
+
+/// Without a word it tries the rows; with `eval` it runs the texts of standard input, with `heap` it measures heaps.
+fn main(rt: HostRuntime) -> Result<(), Error> {
+    let mut words = env::args(&rt)?.skip(1);
+    let Some(word) = words.next() else {
+        return run_rows(&rt);
+    };
+    match word.as_str() {
+        "eval" => eval::run(&rt, words.next().is_some()),
+        "heap" => {
+            let what = words.next();
+            let count = words.next();
+            measures::run(&rt, what, count, words.next().is_some())
+        }
+        _ => bail!("{word}: the words are eval and heap"),
+    }
+}
+
+/// A line for each table, a line for each row that fails, and at last whether all held.
+fn run_rows(rt: &HostRuntime) -> Result<(), Error> {
+    sends(&Heap::new(rt.alloc(), 0));
+    let mut tally = Tally::new();
+    for file in &FILES {
+        let tables = read_tables(rt, file)?;
+        for table in tables.as_slice() {
+            tally.begin_table(rt, table)?;
+            run_table(rt, &mut tally, table)?;
+        }
+    }
+    tally.end(rt)
+}
+
+// That a heap may go to another thread is proved where this is called.
+fn sends<T: Send>(_value: &T) {}
+
+/// Tries the rows of a table, each as its kind says.
+fn run_table(rt: &HostRuntime, tally: &mut Tally, table: &Table) -> Result<(), Error> {
+    match table.kind.as_str() {
+        "price" | "index" | "size" | "value" | "node" => facts::run(rt, tally, table),
+        "heap" | "operator" | "member" => trials::run(rt, tally, table),
+        "large" => measures::run_table(rt, tally, table),
+        "pairs" => operators::run_pairs(rt, tally, table),
+        "array" => members::run_array(rt, tally, table),
+        "name" | "scope" => scopes::run(rt, tally, table),
+        "script" => scripts::run(rt, tally, table),
+        _ => bail!("{}: no such kind of rows: {}", table.place, table.kind),
+    }
+}
