@@ -1,4 +1,4 @@
-//! The word `eval`: each text of standard input is run in a new context, with a zero byte between two.
+//! The word `eval`: runs each text of standard input, with a zero byte between two.
 
 use crate::contexts::{carry_out, new_context, read_text};
 use crate::printed::end_text;

@@ -49,7 +49,7 @@ fn node_text(alloc: Global, field: &str) -> Result<String, Error> {
     Ok(format!(in alloc; "{two:?}, {one:?}")?)
 }
 
-/// A value as it is written, its type, whether it counts as true, and whether it is the same as itself.
+/// A value as it is written, its type, whether it counts as true, and whether it is itself.
 fn value_text(alloc: Global, field: &str) -> Result<String, Error> {
     let mut heap = Heap::new(alloc, 1000);
     let value = value_of(alloc, &mut heap, field)?;

@@ -1,7 +1,7 @@
-//! Tests by rows, from the heap up to whole host scripts: what calls and scripts give, their ticks and their cells.
+//! Tests by rows, from the heap up to host scripts: what calls and scripts give, for which cost.
 //!
-//! Contracts see nothing here: it is a program that reads the tables of data/ and prints which rows fail.
-//! Rely on: each answer was worked out by hand from docs/SCRIPTS.md and docs/PRICES.md, or comes from outside.
+//! Contracts see nothing here: it is a program that reads tables and prints which rows fail.
+//! Rely on: each answer was worked out by hand from docs/, or comes from outside.
 //! Over `test_tables`, `script_eval` and all under them; under no crate.
 //! Begin with README.md, then `run_table` and `src/trials.rt`.
 #![tactic(auto)]
@@ -43,7 +43,7 @@ static FILES: [&str; 11] = [
     "stops.rows",
 ];
 
-/// Without a word it tries the rows; with `eval` it runs the texts of standard input, with `heap` it measures heaps.
+/// Without a word it tries the rows; with `eval` it runs texts, with `heap` it measures heaps.
 fn main(rt: HostRuntime) -> Result<(), Error> {
     let mut words = env::args(&rt)?.skip(1);
     let Some(word) = words.next() else {

@@ -1,4 +1,4 @@
-//! The word `heap`, which measures heaps: items, properties or elements are made, read and changed. Large heaps as rows.
+//! The word `heap`: items, properties or elements are made, read and changed. Large heaps as rows.
 ghost use Rattle.std.specs.Prelude.{◌<◌, length, IsTrue};
 ghost use Rattle.charged_heap.specs.Store.{item_at, place_count};
 
@@ -25,7 +25,7 @@ struct Measures {
 
 const LIMIT: u32 = 4_294_967_295;
 
-/// A row says what is made, how many, the limit in cells, how many were found, and the charge.
+/// A row says what is made, how many, the limit, how many are found, and the charge.
 pub fn run_table(rt: &HostRuntime, tally: &mut Tally, table: &Table) -> Result<(), Error> {
     for row in table.rows.as_slice() {
         let what = row.field(0)?;
@@ -39,7 +39,7 @@ pub fn run_table(rt: &HostRuntime, tally: &mut Tally, table: &Table) -> Result<(
     Ok(())
 }
 
-/// Prints the charge and how many were found, and with a further word the times and the memory taken.
+/// Prints the charge and how many were found, and with a further word times and memory.
 pub fn run(
     rt: &HostRuntime,
     what: Option<String>,

@@ -74,7 +74,7 @@ pub fn run_array(rt: &HostRuntime, tally: &mut Tally, table: &Table) -> Result<(
     Ok(())
 }
 
-/// Whether a step over a heap gave its answer for its cells, which are the last two fields of its row.
+/// Whether a step over a heap gave its answer for its cells, the last two fields of its row.
 pub fn check_step(
     rt: &HostRuntime,
     tally: &mut Tally,

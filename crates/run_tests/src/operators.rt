@@ -48,7 +48,7 @@ fn try_one(
     Ok((before, given_text(alloc, heap, given)?))
 }
 
-/// The first row has the right operands; each other one an operator, a left operand, and what it gives with each of them.
+/// The first row has the right operands; each other one an operator, a left operand and answers.
 pub fn run_pairs(rt: &HostRuntime, tally: &mut Tally, table: &Table) -> Result<(), Error> {
     let Some((first, rows)) = table.rows.as_slice().split_first() else {
         bail!("{}: no row", table.place);

@@ -1,4 +1,4 @@
-//! How values and the ends of runs are written: as docs/FORMATS.md writes them, and what has no text there as a literal.
+//! How values and the ends of runs are written: in the words of docs/FORMATS.md, else as literals.
 
 use anyhow::{Error, bail};
 use charged_heap::{Fail, Heap, Item, Props, Value, Values, key_order};
@@ -175,7 +175,7 @@ fn write_message(out: &mut String, heap: &Heap, n: u32) -> Result<(), Error> {
     Ok(())
 }
 
-/// A string in quotes. A unit that isn't printable ASCII is written by its number, so that surrogates are seen.
+/// A string in quotes. A unit that isn't printable ASCII is written by its number.
 fn write_string(out: &mut String, units: &Units) -> Result<(), Error> {
     out.push('"')?;
     for place in 0..units.len() {

@@ -1,4 +1,4 @@
-//! Uses of names in a scope: what they read, of which type that is, what an assignment gives, and whether a declaration clashes.
+//! Uses of names in a scope: reads, types, assignments, and declarations that clash.
 
 use crate::printed::given_text;
 use crate::scopes::GLOBAL;

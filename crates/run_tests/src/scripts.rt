@@ -44,7 +44,7 @@ fn number_in(how: &str, word: &str) -> Result<Option<u64>, Error> {
     Ok(None)
 }
 
-/// The last fields are the text, the answer, the ticks and the cells. Cells that are `_` are not compared.
+/// The last fields are the text, the answer, the ticks and the cells; `_` is not compared.
 fn run_row(
     rt: &HostRuntime,
     tally: &mut Tally,

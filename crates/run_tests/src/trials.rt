@@ -1,4 +1,4 @@
-//! Rows that are tried in a heap with room enough, in one of exactly their cells, and with one cell less at each charge.
+//! Rows tried with room enough, with exactly their cells, and with one cell less at each charge.
 
 use crate::sums::{answer_of, limit_of, sum_of, total_of};
 use crate::{changes, members, operators};
@@ -71,7 +71,7 @@ fn run_row(
     Ok(())
 }
 
-/// One cell is missing for a charge: it is refused with its numbers, and what was charged before stays.
+/// One cell is missing for a charge: it is refused, and what was charged before stays.
 fn run_short(
     rt: &HostRuntime,
     tally: &mut Tally,
@@ -91,7 +91,7 @@ fn run_short(
     Ok(())
 }
 
-/// In a heap with this limit the row gives that answer for so many cells. It tells the cells before.
+/// In a heap with this limit the row gives that answer for so many cells; the cells before.
 fn run_in(
     rt: &HostRuntime,
     tally: &mut Tally,
