@@ -132,14 +132,14 @@ fn write_item<'a>(
 }
 
 fn push_elements(pieces: &mut Vec<Piece<'_>>, values: &Values) -> Result<(), Error> {
-    let mut behind = "]";
-    for value in values.as_slice().iter().rev() {
-        pieces.push(Piece::Word(behind))?;
-        pieces.push(Piece::Value(*value))?;
-        behind = ",";
-    }
     if values.len() == 0 {
-        pieces.push(Piece::Word(behind))?;
+        pieces.push(Piece::Word("]"))?;
+    }
+    let mut is_last = true;
+    for value in values.as_slice().iter().rev() {
+        pieces.push(Piece::Word(if is_last { "]" } else { "," }))?;
+        pieces.push(Piece::Value(*value))?;
+        is_last = false;
     }
     Ok(())
 }
@@ -149,19 +149,19 @@ fn push_properties<'a>(
     pieces: &mut Vec<Piece<'a>>,
     props: &'a Props,
 ) -> Result<(), Error> {
-    let mut behind = "}";
+    if props.len() == 0 {
+        pieces.push(Piece::Word("}"))?;
+    }
+    let mut is_last = true;
     for place in key_order(alloc, props)?.iter().rev() {
         if *place < props.len() {
             let (key, value) = props.entry(*place);
-            pieces.push(Piece::Word(behind))?;
+            pieces.push(Piece::Word(if is_last { "}" } else { "," }))?;
             pieces.push(Piece::Value(value))?;
             pieces.push(Piece::Word(":"))?;
             pieces.push(Piece::Key(key))?;
-            behind = ",";
+            is_last = false;
         }
-    }
-    if props.len() == 0 {
-        pieces.push(Piece::Word(behind))?;
     }
     Ok(())
 }
