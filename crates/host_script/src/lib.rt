@@ -23,14 +23,3 @@ pub use host_syntax::{
     Command, Commands, HostArgument, HostScript, IsolateDecl, IsolateDecls, What,
 };
 pub use read::read_host;
-
-#[cfg(test)]
-mod described;
-#[cfg(test)]
-mod limit_tests;
-#[cfg(test)]
-mod literal_tests;
-#[cfg(test)]
-mod tests;
-#[cfg(test)]
-mod timeout_tests;

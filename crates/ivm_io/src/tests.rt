@@ -70,15 +70,6 @@ fn a_writer_that_takes_nothing_has_failed(rt: HostRuntime) -> Result<(), Fail> {
 }
 
 #[test]
-fn one_byte_too_many_is_told(rt: HostRuntime) -> Result<(), Fail> {
-    let alloc = rt.alloc();
-    let mut source = MemorySource::new(b"abc".to_vec(alloc)?, Vec::new(alloc));
-    let outcome = read_all(alloc, &mut source, 2);
-    assert_eq!(rt; outcome.err(), Some(ReadStop::TooLong));
-    Ok(())
-}
-
-#[test]
 fn the_listed_write_fails_and_the_next_succeeds(rt: HostRuntime) -> Result<(), Fail> {
     let alloc = rt.alloc();
     let mut sink = MemorySink::new(alloc, [2u64].to_vec(alloc)?);

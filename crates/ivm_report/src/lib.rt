@@ -14,6 +14,3 @@ mod values;
 
 pub use lines::report;
 pub use numbers::push_decimal;
-
-#[cfg(test)]
-mod tests;

@@ -2,26 +2,33 @@
 //!
 //! Contracts see nothing here: it is a program that reads tables and prints which rows fail.
 //! Rely on: each answer was worked out by hand from docs/, or comes from outside.
-//! Over `test_tables`, `script_eval` and all under them; under no crate.
+//! Over `test_tables`, `ivm_cli`, `isolate_core` and all under them; under no crate.
 //! Begin with README.md, then `run_table` and `src/trials.rt`.
 #![tactic(auto)]
 
+mod cells;
 mod changes;
 mod contexts;
 mod eval;
 mod facts;
+mod fronts;
+mod hosts;
 mod made;
 mod measures;
 mod members;
 mod named;
 mod operators;
+mod outcomes;
 mod printed;
+mod reports;
 mod scope_uses;
 mod scopes;
 mod scripts;
 mod sums;
+mod told;
 mod trials;
 mod values;
+mod walks;
 
 use anyhow::{Error, bail};
 use charged_heap::Heap;
@@ -29,7 +36,7 @@ use std::env;
 use test_tables::{Table, Tally, read_tables};
 
 /// The files of data/.
-static FILES: [&str; 11] = [
+static FILES: [&str; 18] = [
     "heap.rows",
     "operators.rows",
     "pairs.rows",
@@ -41,6 +48,13 @@ static FILES: [&str; 11] = [
     "throws.rows",
     "finals.rows",
     "stops.rows",
+    "cells.rows",
+    "walks.rows",
+    "hosts.rows",
+    "outcomes.rows",
+    "values.rows",
+    "reports.rows",
+    "limits.rows",
 ];
 
 /// Without a word it tries the rows; with `eval` it runs texts, with `heap` it measures heaps.
@@ -87,6 +101,11 @@ fn run_table(rt: &HostRuntime, tally: &mut Tally, table: &Table) -> Result<(), E
         "array" => members::run_array(rt, tally, table),
         "name" | "scope" => scopes::run(rt, tally, table),
         "script" => scripts::run(rt, tally, table),
+        "cell" => cells::run(rt, tally, table),
+        "walk" => walks::run(rt, tally, table),
+        "host" => hosts::run(rt, tally, table),
+        "outcome" => outcomes::run(rt, tally, table),
+        "report" => reports::run(rt, tally, table),
         _ => bail!("{}: no such kind of rows: {}", table.place, table.kind),
     }
 }
