@@ -27,7 +27,8 @@ pub record IsUnexpected (whole : Rule) (before us : List Token) : Type 0 where
   pub no_other : (t : Token) (v more : List Token) → us ≡ t ∷ v → class_of (t ∷ v) ≡ class_of (t ∷ more)
       → ¬ (Reads whole (before ++ t ∷ more))
 
--- us is a token, and those behind it; texts may begin with it too, but none in which only so many levels are open
+-- us is a token, and those behind it; texts may begin with it too, but none in which only so many
+-- levels are open
 pub record OpensTooMany (whole : Rule) (levels : ℕ) (before us : List Token) : Type 0 where
   pub token : Token
   pub behind : List Token
@@ -41,7 +42,8 @@ abbrev pub IsRefused : Why → Rule → ℕ → List Token → List Token → Ty
 IsRefused Unexpected whole levels before us = IsUnexpected whole before us
 IsRefused TooDeep whole levels before us = OpensTooMany whole levels before us
 
--- the first bad token of ts is the first of us, refused for such a reason; where us is nothing, the text ends too early
+-- the first bad token of ts is the first of us, refused for such a reason; where us is nothing, the
+-- text ends too early
 pub record IsFirstBad (whole : Rule) (levels : ℕ) (ts : List Token) (why : Why) (us : List Token) : Type 0 where
   pub before : List Token
   pub split : ts ≡ before ++ us

@@ -1,7 +1,7 @@
 //! Laws of the first bad token of a text, above the grammar that `parser_rules` has.
 //!
 //! Contracts see tokens as a list, and the grammar as the rule for the whole of a text.
-//! Rely on: a text begins with the tokens before the one that is refused, and none with that one too.
+//! Rely on: a text begins with the tokens before the refused one, and none with that one too.
 //! Over `parser_rules`; under `js_grammar` and `js_parser`.
 //! Begin with `specs/Viable.antt`, then `specs/FirstBad.antt`.
 #![tactic(auto)]

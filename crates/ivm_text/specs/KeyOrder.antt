@@ -49,7 +49,8 @@ rank_at pairs place = option_map_or (λ p. rank_of p.0) (slice_get pairs place) 
 
 -- ---- what is proved of it
 
--- the key order of a list has its pairs, by rank, and those of one rank as they stood; a list in key order stays
+-- the key order of a list has its pairs, by rank, and those of one rank as they stood; a list in
+-- key order stays
 pub record IsKeyOrder {V : Type 0} (pairs ordered : List (List ℕ × V)) : Type 0 where
   pub permutation : IsPermutation pairs ordered
   pub ascending : IsNonDecreasingBy (λ p. rank_of p.0) ordered

@@ -1,5 +1,6 @@
 -- Lists of keys with values, such as the properties of an object.
--- ECMA-262, OrdinaryOwnPropertyKeys, for objects without array indices. A key is the list of its code units.
+-- ECMA-262, OrdinaryOwnPropertyKeys, for objects without array indices. A key is the list of its
+-- code units.
 use Rattle.std.specs.Prelude.{ℕ, Bool, List, Option, nat_eq}
 use Rattle.std.specs.Map.{lookup, keys_of}
 use Rattle.std.specs.List.{IsDistinct}

@@ -80,7 +80,8 @@ fn rank_at<V>(entries: &IndexMap<Units, V>, place: usize) -> u64
     }
 }
 
-/// The places of a map's pairs in key order: array indices ascending, then the others in order of creation.
+/// The places of a map's pairs in key order: array indices ascending, then the others in order of
+/// creation.
 pub fn places_in_order<V>(
     alloc: Global,
     entries: &IndexMap<Units, V>,

@@ -4,8 +4,9 @@ ghost use Rattle.std.specs.Prelude.{◌≡◌, ◌≤◌, length, MatchResult};
 ghost use Rattle.std.specs.Str.{IsUtf8};
 ghost use Rattle.ivm_text.specs.Text.{fault_place};
 
-/// The bytes as a text in UTF-8. The error is the place of the first byte that no UTF-8 text could have
-/// there, and the number of the bytes where they only end inside a character. It takes no memory.
+/// The bytes as a text in UTF-8. The error is the place of the first byte that no UTF-8 text could
+/// have there, and the number of the bytes where they only end inside a character. It takes no
+/// memory.
 pub fn text_of(bytes: &[u8]) -> Result<&str, usize>
     ensures cases { MatchResult result (λ text. text.now ≡ bytes.now) (λ place. (place ≡ fault_place bytes.now) × (place ≤ length bytes.now)) }
     ensures utf8 { MatchResult result (λ _. IsUtf8 bytes.now) (λ _. ¬ (IsUtf8 bytes.now)) }

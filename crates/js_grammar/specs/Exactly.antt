@@ -12,7 +12,8 @@ use Rattle.parser_rules.specs.Grammar.{Answer, reading, answer_of, accepted, rej
 abbrev pub Derivation : Type 1
 Derivation = ℕ → List Token → Trees → Type 0
 
--- what the table's rule for the whole of a text answers to a text of so many bytes and with these tokens, where so many levels may be open
+-- what the table's rule for the whole of a text answers to a text of so many bytes and with these
+-- tokens, where so many levels may be open
 abbrev pub answer_at : Rule → ℕ → ℕ → List Token → Answer
 answer_at whole levels end ts = answer_of end (reading levels whole ts)
 
@@ -20,9 +21,10 @@ answer_at whole levels end ts = answer_of end (reading levels whole ts)
 abbrev pub Begins : Derivation → List Token → Type 0
 Begins Derived before = (levels : ℕ) × (more : List Token) × (t : Trees) × Derived levels (before ++ more) t
 
--- the rule accepts exactly the tokens that have a tree, with that tree, and refuses exactly those that have none;
--- where more levels may be open, tokens have the trees that they had; however many may be open, they have at most one;
--- and the rule reads a text that begins with some tokens exactly where one that begins with them has a tree
+-- the rule accepts exactly the tokens that have a tree, with that tree, and refuses exactly those
+-- that have none; where more levels may be open, tokens have the trees that they had; however many
+-- may be open, they have at most one; and the rule reads a text that begins with some tokens
+-- exactly where one that begins with them has a tree
 pub record IsSameGrammar (whole : Rule) (Derived : Derivation) : Type 0 where
   pub accepts : (levels end : ℕ) (ts : List Token) (t : Trees) → (answer_at whole levels end ts ≡ accepted t) ↔ Derived levels ts t
   pub refuses : (levels end : ℕ) (ts : List Token) → ((r : Refusal) × (answer_at whole levels end ts ≡ rejected r)) ↔ ((t : Trees) → ¬ (Derived levels ts t))

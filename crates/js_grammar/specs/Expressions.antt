@@ -40,7 +40,8 @@ pub data Parameters : Spot → List Named → Spot → Type 0 where
 module _ (inside : Form → Reading Part) where
   -- ---- lists
 
-  -- expressions with a `,` between and maybe behind them, up to what closes them, which is read too: ArgumentList and ElementList, without spreads and holes
+  -- expressions with a `,` between and maybe behind them, up to what closes them, which is read
+  -- too: ArgumentList and ElementList, without spreads and holes
   pub data Elements (closing : Class) : Spot → List Part → Spot → Type 0 where
     elements : {p a q : Spot} {xs : List Part} → Many (other_than (closing ∷ [])) (Followed (is Comma) (is closing) (inside Expression)) p xs a → Takes (is closing) a q → Elements closing p xs q
 
@@ -72,7 +73,8 @@ module _ (inside : Form → Reading Part) where
     braces : {p q : Spot} {x : Part} → Body p x q → ConciseBody p x q
     concise : {p q : Spot} {x : Part} → SeesNot (is BraceOpen) p → inside Expression p x q → ConciseBody p x q
 
-  -- The names between the parentheses of an arrow function. Each is read as an expression that is nothing but a name, and each `,` between them as an operator.
+  -- The names between the parentheses of an arrow function. Each is read as an expression that is
+  -- nothing but a name, and each `,` between them as an operator.
   pub data MoreNames : Spot → List Named → Spot → Type 0 where
     last_name : {p : Spot} → Sees (is ParenClose) p → MoreNames p [] p
     comma_behind_names : {p q : Spot} → Takes (is Comma) p q → Sees (is ParenClose) q → MoreNames p [] q
@@ -204,7 +206,8 @@ module _ (inside : Form → Reading Part) where
         Conditional x p (node_from kinds.Cond c (c ∷ y ∷ z ∷ []) q) (one_more q)
     no_choice : {x y : Part} {p q : Spot} → ShortCircuit x p y q → SeesNot (is Question) q → Conditional x p y q
 
-  -- AssignmentExpression, behind what calls and members may follow: only that may stand to the left of `=`
+  -- AssignmentExpression, behind what calls and members may follow: only that may stand to the left
+  -- of `=`
   pub data Assignment : Part → Spot → Part → Spot → Type 0 where
     assigned : {x y : Part} {p a q : Spot} → Takes (among assignments) p a → inside Expression a y q → Assignment x p (node_from (operator_kind (class_of p.rest)) x (x ∷ y ∷ []) q) (one_more q)
     not_assigned : {x y z : Part} {p a q : Spot} → SeesNot (among assignments) p → Postfix x p y a → Conditional y a z q → Assignment x p z q

@@ -30,7 +30,8 @@ pub data IsBad (Derived : Derivation) (levels : ℕ) (before : List Token) : Why
   -- or texts begin with it, but none in which no more than these levels are open.
   too_deep : {t : Token} {ts : List Token} → Begins Derived (before ++ t ∷ []) → NoneWithin Derived levels (before ++ t ∷ []) → IsBad Derived levels before TooDeep (t ∷ ts)
 
--- the tokens have no tree; some text begins with those before the ones that are left, and what is in view there is bad
+-- the tokens have no tree; some text begins with those before the ones that are left, and what is
+-- in view there is bad
 pub record IsFirstBad (Derived : Derivation) (levels : ℕ) (ts : List Token) (why : Why) (left : List Token) : Type 0 where
   pub before : List Token
   pub split : ts ≡ before ++ left

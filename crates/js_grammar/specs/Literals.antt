@@ -32,7 +32,8 @@ module _ (inside : Form → Reading Part) where
         Takes (is BraceOpen) p a → Many (other_than (BraceClose ∷ [])) (Followed (is Comma) (is BraceClose) LiteralProperty) a ps b → Takes (is BraceClose) b q →
         LiteralForm p (with_names (map (λ (e : Named × Part). e.0) ps) (node kinds.Object p (map (λ (e : Named × Part). e.1) ps) q)) (one_more q)
 
-  -- a literal, or `W(N)`, where W says what is passed and N may be any word; it has the tree of a call
+  -- a literal, or `W(N)`, where W says what is passed and N may be any word; it has the tree of a
+  -- call
   pub data Argument : Spot → Part → Spot → Type 0 where
     literal : {p q : Spot} {x : Part} → SeesNot is_passing p → inside forms.Literal p x q → Argument p x q
     passing : {p a b c q : Spot} → Takes is_passing p a → Takes (is ParenOpen) (one_more a) b → Takes (kind_passes is_word_kind) b c → Takes (is ParenClose) (one_more c) q →

@@ -1,5 +1,6 @@
 -- The words in which the grammar is said by cases: from here, this is read, up to there.
--- This project's own, in the manner of ECMA-262's Grammar Notation; docs/SCRIPTS.md, "The grammar by cases".
+-- This project's own, in the manner of ECMA-262's Grammar Notation; docs/SCRIPTS.md, "The grammar
+-- by cases".
 use Rattle.std.specs.Prelude.{◌≡◌, ℕ, ◌+◌, ℤ, pos, Bool, true, false, not, ◌&&◌, List, [], ◌∷◌, map, Option, None, Some}
 use Rattle.js_syntax.specs.declared.kind.Kind.{Kind}
 use Rattle.js_syntax.specs.declared.kind.Kind.TheVariants as kinds
@@ -85,7 +86,8 @@ abbrev pub trees_of : List Part → Trees
 trees_of [] = nothing
 trees_of (x ∷ xs) = tree x.head x.kids (trees_of xs)
 
--- a node of a kind that starts at a place, with these parts, and whose last part ends at a spot; its number is how many were made before
+-- a node of a kind that starts at a place, with these parts, and whose last part ends at a spot;
+-- its number is how many were made before
 abbrev pub node_at : Kind → ℕ → List Part → Spot → Part
 node_at kind place parts end = record {
   start = place;
@@ -147,7 +149,8 @@ pub data Followed {A : Type 0} (comma : List Token → Bool) (closing : List Tok
   by_comma : {p a q : Spot} {x : A} → One p x a → Takes comma a q → Followed comma closing One p x q
   by_closing : {p q : Spot} {x : A} → One p x q → SeesNot comma q → Sees closing q → Followed comma closing One p x q
 
--- operators that lean to the left: each makes one part of what was read before and what stands behind it
+-- operators that lean to the left: each makes one part of what was read before and what stands
+-- behind it
 pub data Chain (goes_on : List Token → Bool) (Step : Tail) : Part → Spot → Part → Spot → Type 0 where
   chain_end : {x : Part} {p : Spot} → SeesNot goes_on p → Chain goes_on Step x p x p
   chain_step : {x y z : Part} {p a q : Spot} → Sees goes_on p → Step x p y a → Chain goes_on Step y a z q → Chain goes_on Step x p z q

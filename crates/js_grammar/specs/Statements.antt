@@ -1,5 +1,6 @@
 -- Statements and declarations by cases.
--- ECMA-262, Statements and Declarations; Automatic Semicolon Insertion; docs/SCRIPTS.md, "Statements".
+-- ECMA-262, Statements and Declarations; Automatic Semicolon Insertion; docs/SCRIPTS.md,
+-- "Statements".
 use Rattle.std.specs.Prelude.{List, [], ◌∷◌, map, Option, None, Some}
 use Rattle.js_syntax.specs.declared.kind.Kind.{Kind}
 use Rattle.js_syntax.specs.declared.kind.Kind.TheVariants as kinds
@@ -17,8 +18,9 @@ abbrev pub begins_expression_statement : List Class
 begins_expression_statement =
     Name ∷ Num ∷ Text ∷ This ∷ Undefined ∷ Null ∷ True ∷ False ∷ New ∷ ParenOpen ∷ BracketOpen ∷ Not ∷ Minus ∷ Plus ∷ TypeOf ∷ Void ∷ PlusPlus ∷ MinusMinus ∷ []
 
--- The end of a statement: `;`, or nothing where no `;` comes: in front of `}`, at the end of the text, and where a line terminator stands before the token in view.
--- That token continues nothing, since each form is read as far as it goes.
+-- The end of a statement: `;`, or nothing where no `;` comes: in front of `}`, at the end of the
+-- text, and where a line terminator stands before the token in view. That token continues nothing,
+-- since each form is read as far as it goes.
 pub data Ends : Spot → Spot → Type 0 where
   semicolon : {p q : Spot} → Takes (is Semicolon) p q → Ends p q
   nothing_there : {p : Spot} → SeesNot (is Semicolon) p → Sees ends_statement p → Ends p p
@@ -80,7 +82,8 @@ module _ (inside : Form → Reading Part) where
     for_const : {p q : Spot} {xs : List (Named × Part)} → Consts p xs q → ForStart p (declared kinds.Const p xs q) (one_more q)
     for_expression : {p q : Spot} {x : Part} → SeesNot (among (Let ∷ Const ∷ [])) p → ExpressionBefore Semicolon p x q → ForStart p x q
 
-  -- what stands behind `return`: nothing in front of `;`, `}` and the end, and behind a line terminator, which ends the statement
+  -- what stands behind `return`: nothing in front of `;`, `}` and the end, and behind a line
+  -- terminator, which ends the statement
   pub data Returned : Spot → Part → Spot → Type 0 where
     line_behind : {p : Spot} → Sees is_line p → Returned p (absent p) (one_more p)
     nothing_returned : {p q : Spot} → SeesNot is_line p → Sees (among (Semicolon ∷ BraceClose ∷ End ∷ [])) p → Ends (one_more p) q → Returned p (absent p) q

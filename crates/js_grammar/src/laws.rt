@@ -5,9 +5,9 @@ ghost use Rattle.js_grammar.specs.Derives.{Derives, DerivesArguments, DerivesLit
 ghost use Rattle.js_grammar.specs.Exactly.{IsSameGrammar};
 ghost use Rattle.js_grammar.specs.FirstBad.{HasFirstBad};
 
-/// Tokens are a script with a tree, where so many levels may be open, exactly where the table's rule accepts them with
-/// that tree; it refuses exactly those that have none. More levels take no tree away, and tokens have at most one tree,
-/// however many levels may be open.
+/// Tokens are a script with a tree, where so many levels may be open, exactly where the table's
+/// rule accepts them with that tree; it refuses exactly those that have none. More levels take no
+/// tree away, and tokens have at most one tree, however many levels may be open.
 pub fn scripts_derive()
     ensures { IsSameGrammar script Derives }
 {}
@@ -22,9 +22,10 @@ pub fn arguments_derive()
     ensures { IsSameGrammar arguments_text DerivesArguments }
 {}
 
-/// Wherever the table's rule for scripts stands, it stands at the first bad token: the tokens derive no tree, some script
-/// begins with those before it, and with it none does, save that a `new` may be left out of the profile, and that a token
-/// may be open to more levels than there may be.
+/// Wherever the table's rule for scripts stands, it stands at the first bad token: the tokens
+/// derive no tree, some script begins with those before it, and with it none does, save that a
+/// `new` may be left out of the profile, and that a token may be open to more levels than there may
+/// be.
 pub fn scripts_have_a_first_bad_token()
     ensures { HasFirstBad script Derives }
 {}

@@ -25,7 +25,8 @@ two_more (Some high) = joined high.0 (two_digits high.1)
 abbrev pub four_digits : Text → Option (ℕ × Text)
 four_digits t = two_more (two_digits t)
 
--- the value of the hexadecimal digits at the front, after those of n, up to a `}`; a code point is at most 10FFFF
+-- the value of the hexadecimal digits at the front, after those of n, up to a `}`; a code point is
+-- at most 10FFFF
 abbrev pub to_brace : ℕ → Text → Option (ℕ × Text)
 to_brace n [] = None
 to_brace n (c ∷ t) =
@@ -56,8 +57,8 @@ abbrev pub coded : Option (ℕ × Text) → Option (Option ℕ × Text)
 coded None = None
 coded (Some p) = Some (Some p.0, p.1)
 
--- what c and the text t behind it stand for after a backslash, a code point or nothing, and the text behind that;
--- none where no escape is
+-- what c and the text t behind it stand for after a backslash, a code point or nothing, and the
+-- text behind that; none where no escape is
 abbrev pub escape : ℕ → Text → Option (Option ℕ × Text)
 escape c t =
     if nat_eq c 120 then coded (two_digits t)

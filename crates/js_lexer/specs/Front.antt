@@ -18,7 +18,8 @@ use Rattle.js_lexer.specs.Punctuators.{punctuators, IsLongest, NoneStands, is_fr
 pub data Seen : Type 0 where
   -- nothing
   ended : Seen
-  -- white space, a line terminator or a comment; whether a line terminator is in it, and the text behind it
+  -- white space, a line terminator or a comment; whether a line terminator is in it, and the text
+  -- behind it
   gap : Bool → Text → Seen
   -- a token: what it is, its text, its number, and the text behind it
   token : TokenKind → List ℕ → ℤ → Text → Seen

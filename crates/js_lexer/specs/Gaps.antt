@@ -13,7 +13,8 @@ abbrev pub past : ℕ → Text → Option Text
 past d [] = None
 past d (c ∷ t) = if nat_eq c d then Some t else None
 
--- whether one of them is a line terminator, and the text behind the first `*/`; `l` where one came before
+-- whether one of them is a line terminator, and the text behind the first `*/`; `l` where one came
+-- before
 abbrev pub past_star : Bool → Text → Option (Bool × Text)
 past_star l [] = None
 past_star l (c ∷ t) = closes l (nat_eq c 42) (past 47 t) (past_star (l || is_line c) t)

@@ -1,5 +1,6 @@
 -- The numbers at the front of a text.
--- ECMA-262, Numeric Literals, of which whole numbers up to 2^53 - 1 are taken; docs/SCRIPTS.md, "Numbers".
+-- ECMA-262, Numeric Literals, of which whole numbers up to 2^53 - 1 are taken; docs/SCRIPTS.md,
+-- "Numbers".
 use Rattle.std.specs.Prelude.{ℕ, ◌+◌, ◌*◌, Bool, false, ◌||◌, [], ◌∷◌, nat_eq, nat_lt, nat_le, Option, None, Some, if◌then◌else◌}
 use Rattle.std.specs.Char.{digit_value}
 use Rattle.ivm_text.specs.Text.{max_number}
@@ -15,7 +16,8 @@ clings (c ∷ t) = is_digit c || starts_word c || nat_eq c 46
 abbrev pub ended : ℕ → Text → Option (ℕ × Text)
 ended n t = if clings t then None else Some (n, t)
 
--- the number that the digits to this base at the front write after those of n, and the text behind them
+-- the number that the digits to this base at the front write after those of n, and the text behind
+-- them
 abbrev pub digits : ℕ → ℕ → Text → Option (ℕ × Text)
 digits base n [] = ended n []
 digits base n (c ∷ t) =

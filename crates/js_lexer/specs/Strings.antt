@@ -1,5 +1,6 @@
 -- What a string comes to.
--- ECMA-262, String Literals: DoubleStringCharacters, SingleStringCharacters; docs/SCRIPTS.md, "Strings".
+-- ECMA-262, String Literals: DoubleStringCharacters, SingleStringCharacters; docs/SCRIPTS.md,
+-- "Strings".
 use Rattle.std.specs.Prelude.{◌≡◌, ℕ, ◌||◌, List, [], ◌∷◌, ◌++◌, nat_eq, Option, None, Some, if◌then◌else◌}
 use Rattle.std.specs.Char.Escape.{encode_utf16}
 use Rattle.js_lexer.specs.Letters.{Text}

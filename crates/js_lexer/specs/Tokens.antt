@@ -1,5 +1,6 @@
 -- The tokens of a text, or its first fault.
--- ECMA-262, Lexical Grammar: the text is read from left to right, and the longest element is taken at each place; docs/SCRIPTS.md, "Tokens".
+-- ECMA-262, Lexical Grammar: the text is read from left to right, and the longest element is taken
+-- at each place; docs/SCRIPTS.md, "Tokens".
 use Rattle.std.specs.Prelude.{◌≡◌, ℕ, ◌-◌, Bool, false, ◌||◌, List, [], ◌∷◌, ◌++◌, length, take, None, Result, Ok, Err, ℤ}
 use Rattle.std.specs.Str.{IsUtf8, chars, encode_utf8_all}
 use Rattle.ivm_text.specs.Text.{fault_place}
@@ -33,7 +34,8 @@ after ts (Err f) = Err f
 abbrev pub token_of : TokenKind → List ℕ → ℤ → ℕ → Bool → Token
 token_of kind units n place line = record { kind = kind; text = units; number = n; place = place; after_line = line }
 
--- what t, with which `whole` ends, is read as; `l` says whether a line terminator stands before it, behind the last token
+-- what t, with which `whole` ends, is read as; `l` says whether a line terminator stands before it,
+-- behind the last token
 pub data Reads (whole : Text) : Bool → Text → Reading → Type 0 where
   at_end : {l : Bool} {t : Text} → Front t ended → Reads whole l t (Ok [])
   past_gap : {l m : Bool} {t u : Text} {r : Reading} → Front t (gap m u) → Reads whole (l || m) u r → Reads whole l t r
@@ -49,7 +51,8 @@ AreTokens bytes tokens = IsUtf8 bytes × Reads (chars bytes) false (chars bytes)
 abbrev pub refusal : RefusalKind → ℕ → Refusal
 refusal kind place = record { kind = kind; place = place; word = None }
 
--- why the bytes are no text of tokens: they are no text, or else this is the first fault from left to right
+-- why the bytes are no text of tokens: they are no text, or else this is the first fault from left
+-- to right
 pub data IsRefusal : List ℕ → Refusal → Type 0 where
   not_utf8 : {bytes : List ℕ} → ¬ (IsUtf8 bytes) → IsRefusal bytes (refusal BadUtf8 (fault_place bytes))
   first_fault : {bytes : List ℕ} {kind : RefusalKind} {at : Text} → IsUtf8 bytes

@@ -5,7 +5,8 @@ ghost use Rattle.js_lexer.specs.Escapes.{two_digits, four_digits, to_brace, unic
 
 use crate::letters::{digit, digit_first, ends_line};
 
-/// What `c` and the text behind it stand for after a backslash: a code point or nothing, and the text behind that.
+/// What `c` and the text behind it stand for after a backslash: a code point or nothing, and the
+/// text behind that.
 pub(crate) fn escaped(c: char, text: &[char]) -> Option<(Option<u32>, &[char])>
     ensures value { MatchOption result (escape c text.now ≡ None) (λ p. escape c text.now ≡ Some (p.0, p.1.now)) }
     ensures within { IfSome result (λ p. length p.1.now ≤ length text.now) }

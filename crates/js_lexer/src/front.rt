@@ -17,7 +17,8 @@ use crate::words::read_word;
 use ivm_text::{NoMemory, RefusalKind, Units};
 use std::alloc::Global;
 
-/// What stands at the front of a text, and the text behind it; or a fault, and the text at whose front it is.
+/// What stands at the front of a text, and the text behind it; or a fault, and the text at whose
+/// front it is.
 #[derive(Drop)]
 pub(crate) enum Element<'a> {
     End,

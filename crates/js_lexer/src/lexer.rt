@@ -15,8 +15,9 @@ use std::alloc::Global;
 
 /// The tokens of a text of fewer than 2^32 bytes.
 ///
-/// It is refused exactly where the bytes are no text of tokens. `BadUtf8` comes before all others, at the first byte
-/// that no UTF-8 text could have there; else the refusal is the first fault from left to right, at its byte.
+/// It is refused exactly where the bytes are no text of tokens. `BadUtf8` comes before all others,
+/// at the first byte that no UTF-8 text could have there; else the refusal is the first fault from
+/// left to right, at its byte.
 pub fn lex(alloc: Global, text: &[u8]) -> Result<Tokens, SyntaxFault>
     requires { length text.now < 2 ^ 32 }
 

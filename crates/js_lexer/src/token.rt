@@ -28,7 +28,8 @@ pub struct Token {
     pub number: i64,
     /// The byte at which it begins, counted from 0.
     pub place: u32,
-    /// Whether a line terminator stands between it and the token before it, or the text's start for the first.
+    /// Whether a line terminator stands between it and the token before it, or the text's start for
+    /// the first.
     pub after_line: bool,
 }
 

@@ -28,7 +28,8 @@ parts t = side_by_side t.kids
 
 -- ---- objects
 
--- keys given their values, one after the other: a key that is given twice keeps its first place and its last value
+-- keys given their values, one after the other: a key that is given twice keeps its first place and
+-- its last value
 abbrev pub given : {V : Type 0} → List (List ℕ × V) → List (List ℕ × V) → List (List ℕ × V)
 given pairs [] = pairs
 given pairs (p ∷ ps) = given (with_value pairs p.0 p.1) ps
@@ -108,7 +109,8 @@ abbrev pub pairs_from : ℕ → List (List ℕ × Tree) → List (List ℕ × Le
 pairs_from n [] = []
 pairs_from n (p ∷ ps) = (p.0, leaf_at n p.1) ∷ pairs_from (past n p.1) ps
 
--- a node, where n is the number of the first node that it holds: an array, an object, or else a string
+-- a node, where n is the number of the first node that it holds: an array, an object, or else a
+-- string
 abbrev pub node_at : ℕ → Tree → CopyNode
 node_at n t =
     if is_array t.head.kind then nodes.Array (leaves_from n (parts t))
@@ -120,8 +122,8 @@ abbrev pub nodes_from : ℕ → List Tree → List CopyNode
 nodes_from n [] = []
 nodes_from n (t ∷ ts) = node_at n t ∷ nodes_from (n + length (inner_nodes t)) ts
 
--- the nodes of a copy in the order in which they are first mentioned: the root's first, and then those that the nodes of
--- this list hold, the first node's first
+-- the nodes of a copy in the order in which they are first mentioned: the root's first, and then
+-- those that the nodes of this list hold, the first node's first
 pub record AreNodesOf (root : Tree) (told : List CopyNode) : Type 0 where
   pub order : List Tree
   pub is_order : order ≡ root ∷ flat_map inner_nodes order

@@ -21,7 +21,8 @@ parts_of_text (tree head kids rest) = side_by_side kids
 
 -- ---- literals
 
--- the bytes are a text of tokens, the grammar has a tree for them, and the copy is that of its one literal
+-- the bytes are a text of tokens, the grammar has a tree for them, and the copy is that of its one
+-- literal
 pub record IsLiteral (bytes : List ℕ) (copy : Copy) : Type 0 where
   pub text_tree : Trees
   pub is_its_tree : HasTree DerivesLiteral bytes text_tree

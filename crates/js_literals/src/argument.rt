@@ -12,7 +12,8 @@ pub enum FormKind {
     Callback,
 }
 
-/// One argument: the copy of a literal, or what is passed and the name that it has in the host script.
+/// One argument: the copy of a literal, or what is passed and the name that it has in the host
+/// script.
 #[derive(Debug, Drop)]
 pub enum Argument {
     Literal(Copy),

@@ -3,8 +3,8 @@
 ghost use Rattle.std.specs.Prelude.{ℕ, List};
 ghost use Rattle.js_literals.specs.One.{HasOneValue};
 
-/// A text has at most one value. So `literal` answers `Ok` with the one copy that the text stands for, and `arguments` with
-/// its one list of arguments.
+/// A text has at most one value. So `literal` answers `Ok` with the one copy that the text stands
+/// for, and `arguments` with its one list of arguments.
 pub fn one_value()
     ensures { (bytes : List ℕ) → HasOneValue bytes }
 {}

@@ -1,8 +1,8 @@
 //! Literals and texts of arguments from their bytes, as plain copies.
 //!
 //! Contracts see bytes as lists, and a copy as its nodes and its root.
-//! Rely on: a copy is that of the literal's tree, and a refusal is that of the tokens or of the grammar.
-//! Over `js_parser`, `js_grammar` and `ivm_text`; under no crate yet.
+//! Rely on: a copy is that of the literal's tree, a refusal that of the tokens or of the grammar.
+//! Over `js_parser`, `js_grammar` and `ivm_text`; under the tests alone, so far.
 //! Begin with `specs/Copies.antt`, then `src/copies.rt`.
 #![tactic(auto)]
 

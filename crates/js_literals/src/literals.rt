@@ -15,8 +15,8 @@ use std::alloc::Global;
 
 /// The value of a text of one literal, of fewer than 2^32 bytes.
 ///
-/// The text is refused as `js_parser::parse_literal` refuses it. A token's level is the number of literals that are open at
-/// it, and may be at most 200.
+/// The text is refused as `js_parser::parse_literal` refuses it. A token's level is the number of
+/// literals that are open at it, and may be at most 200.
 pub fn literal(alloc: Global, text: &[u8]) -> Result<Copy, SyntaxFault>
     requires { length text.now < 2 ^ 32 }
 
@@ -102,7 +102,8 @@ fn form_of(alloc: Global, script: &Script, number: u32) -> Result<Argument, NoMe
     }
 }
 
-/// What the word at a node says is passed. That there is a word, and that it passes something, is tested.
+/// What the word at a node says is passed. That there is a word, and that it passes something, is
+/// tested.
 fn form_at(script: &Script, number: u32) -> Result<FormKind, NoMemory>
     requires { number < length script.now }
     ensures { IfOk result (λ form. form_of_name (tree_at script.now number).head.name ≡ Some form) }

@@ -9,8 +9,8 @@ use ivm_text::{CloneWhole, NoMemory, Units};
 use js_syntax::Node;
 use std::alloc::Global;
 
-/// The keys of an object with the numbers of their values. A key that is given twice keeps its first place and its last
-/// value.
+/// The keys of an object with the numbers of their values. A key that is given twice keeps its
+/// first place and its last value.
 pub(crate) fn entries_of(alloc: Global, node: &Node) -> Result<IndexMap<Units, u32>, NoMemory>
     ensures entries { IfOk result (λ entries. entries.entries ≡ given [] (zip node.now.names node.now.kids)) }
     ensures distinct { IfOk result (λ entries. HasDistinctKeys entries.entries) }

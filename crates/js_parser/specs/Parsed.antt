@@ -1,5 +1,6 @@
 -- What a text is parsed to: its tree, or the refusal at its first bad token.
--- ECMA-262, ECMAScript Language: Scripts; docs/SCRIPTS.md, "The grammar of scripts", "Literals and arguments" and "Refusals of the grammar".
+-- ECMA-262, ECMAScript Language: Scripts; docs/SCRIPTS.md, "The grammar of scripts", "Literals and
+-- arguments" and "Refusals of the grammar".
 use Rattle.std.specs.Prelude.{◌≡◌, ℕ, List, length, ◌⊎◌}
 use Rattle.ivm_text.specs.declared.refusal.Refusal.{Refusal}
 use Rattle.js_syntax.specs.declared.node.Node.{Node}

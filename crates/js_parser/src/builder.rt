@@ -127,7 +127,8 @@ impl Builder {
         }
     }
 
-    /// The innermost form was only parentheses: its part belongs to the form around it, and starts at the `(`.
+    /// The innermost form was only parentheses: its part belongs to the form around it, and starts
+    /// at the `(`.
     pub fn unwrap(&mut self) -> Result<(), NoMemory>
         ensures { IfOk result (λ _. Changes unwrapped self.old self.new) }
     {

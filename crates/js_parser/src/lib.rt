@@ -1,8 +1,9 @@
-//! Scripts, literals and arguments from their bytes: a tree exactly where the grammar has one, and else the first bad token.
+//! Scripts, literals and arguments from their bytes: their tree, or else the first bad token.
 //!
 //! Contracts see bytes and tokens as lists, and a script as the tree under its root.
-//! Rely on: `parse` and its kin answer what the grammar of `parser_rules` says, save for want of memory.
-//! Over `js_grammar`, `parser_rules`, `js_lexer` and `js_syntax`; under `js_scripts` and `js_literals`.
+//! Rely on: save for want of memory, `parse` and its kin answer what `parser_rules` says.
+//! Over `js_grammar`, `parser_rules`, `js_lexer` and `js_syntax`; under `js_scripts` and
+//! `js_literals`.
 //! Begin with `specs/View.antt`, then `src/reader.rt` and `src/statements.rt`.
 #![tactic(auto)]
 

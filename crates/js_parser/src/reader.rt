@@ -65,7 +65,8 @@ impl Reader<'_> {
         }
     }
 
-    /// Whether the token in view is of one of these classes, and no line terminator stands before it.
+    /// Whether the token in view is of one of these classes, and no line terminator stands before
+    /// it.
     pub fn sees_on_line(&self, classes: &[Class]) -> bool
         ensures { result ≡ passes (sees_on_line classes.now) (state_of self.now) }
     {
@@ -263,7 +264,8 @@ impl Reader<'_> {
         self.take_where(passed);
     }
 
-    /// Takes the token in view, which has to be of one of these classes, on the line of the token before it.
+    /// Takes the token in view, which has to be of one of these classes, on the line of the token
+    /// before it.
     pub fn take_on_line(&mut self, classes: &[Class])
         ensures { Takes (sees_on_line classes.now) self.old self.new }
     {

@@ -24,8 +24,8 @@ use js_syntax::{Kind, Script};
 use parser_rules::Form;
 use std::alloc::Global;
 
-/// How many statements, expressions and operators before an operand may be open at a token; and in texts of literals, how
-/// many literals.
+/// How many statements, expressions and operators before an operand may be open at a token; and in
+/// texts of literals, how many literals.
 const LEVELS: u32 = 200;
 
 /// What a text is read as.
@@ -38,10 +38,11 @@ enum Whole {
 
 /// The script of a text of fewer than 2^32 bytes.
 ///
-/// The text is refused as `lex` refuses it, and else exactly where the grammar of scripts has no tree for its tokens: at the
-/// byte of the first bad token, or at the number of bytes where no token is bad. The kind is `OutOfProfile`, with the word,
-/// where that token is one that this project leaves out; else `TooDeep` where it may stand there but is open to more than 200
-/// levels; else `Unexpected`.
+/// The text is refused as `lex` refuses it, and else exactly where the grammar of scripts has no
+/// tree for its tokens: at the byte of the first bad token, or at the number of bytes where no
+/// token is bad. The kind is `OutOfProfile`, with the word, where that token is one that this
+/// project leaves out; else `TooDeep` where it may stand there but is open to more than 200 levels;
+/// else `Unexpected`.
 pub fn parse(alloc: Global, text: &[u8]) -> Result<Script, SyntaxFault>
     requires { length text.now < 2 ^ 32 }
 
@@ -52,7 +53,8 @@ pub fn parse(alloc: Global, text: &[u8]) -> Result<Script, SyntaxFault>
     parse_whole(alloc, text, Whole::Script)
 }
 
-/// The nodes of a text of one literal, of fewer than 2^32 bytes: a root, whose one kid is the literal.
+/// The nodes of a text of one literal, of fewer than 2^32 bytes: a root, whose one kid is the
+/// literal.
 ///
 /// The text is refused as `parse` refuses it, by the grammar of literals.
 pub fn parse_literal(alloc: Global, text: &[u8]) -> Result<Script, SyntaxFault>
@@ -66,8 +68,8 @@ pub fn parse_literal(alloc: Global, text: &[u8]) -> Result<Script, SyntaxFault>
     parse_whole(alloc, text, Whole::Literal)
 }
 
-/// The nodes of a text of arguments, maybe none, of fewer than 2^32 bytes: a root, whose kids are literals and calls as
-/// `ref(x)`.
+/// The nodes of a text of arguments, maybe none, of fewer than 2^32 bytes: a root, whose kids are
+/// literals and calls as `ref(x)`.
 ///
 /// The text is refused as `parse` refuses it, by the grammar of arguments.
 pub fn parse_arguments(alloc: Global, text: &[u8]) -> Result<Script, SyntaxFault>
@@ -181,7 +183,8 @@ fn read(reader: &mut Reader<'_>, levels: u32, form: Form) -> Result<(), NoMemory
     }
 }
 
-/// The script whose root is the last part of the innermost form. That this part is no other node than the last is tested.
+/// The script whose root is the last part of the innermost form. That this part is no other node
+/// than the last is tested.
 fn finished(builder: Builder) -> Result<Script, SyntaxFault>
     ensures ok { IfOk result (λ script. (rest : List Token) → tree_of_parts (work_in rest builder).top.parts ≡ tree_of script) }
     ensures tree { IfOk result (λ script. IsTreeOf script (tree_of script)) }

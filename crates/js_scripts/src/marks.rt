@@ -50,7 +50,8 @@ fn pass_on(node: &Node, n: u32, marks: &mut Marks)
     }
 }
 
-/// The nodes that the root reaches. Each kid stands below its parent, so one pass from the root down finds them all.
+/// The nodes that the root reaches. Each kid stands below its parent, so one pass from the root
+/// down finds them all.
 pub(crate) fn marks_of(alloc: Global, script: &Script) -> Result<Marks, NoMemory>
     requires { 0 < length script.now }
 

@@ -38,8 +38,8 @@ fn kept_nodes(alloc: Global, script: &Script, marks: &Marks) -> Result<Script, N
     Ok(nodes)
 }
 
-/// The script of the same tree that has the nodes of that tree alone, each under its number. It takes time in proportion
-/// to the nodes, and looks at none under several parents more than once.
+/// The script of the same tree that has the nodes of that tree alone, each under its number. It
+/// takes time in proportion to the nodes, and looks at none under several parents more than once.
 pub(crate) fn prune(alloc: Global, script: &Script) -> Result<Script, NoMemory>
     requires { 0 < length script.now }
 

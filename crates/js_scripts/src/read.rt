@@ -22,7 +22,8 @@ fn unbuilt(place: u32) -> Refusal
     }
 }
 
-// The nodes of the tree of a script without early faults, or the refusal of its first form that isn't built.
+// The nodes of the tree of a script without early faults, or the refusal of its first form that
+// isn't built.
 fn built(alloc: Global, parsed: &Script) -> Result<Checked, SyntaxFault>
     requires some { 0 < length parsed.now }
     requires checked { HasNoEarlyFault parsed.now }
@@ -62,10 +63,10 @@ fn judged(alloc: Global, parsed: Script) -> Result<Checked, SyntaxFault>
 
 /// The script of a text of fewer than 2^32 bytes (ECMA-262, ParseScript).
 ///
-/// Its nodes are those of the text's one tree, each form under the number that the tree gives it; what the parser made
-/// on its way and took back is not among them. A text is refused as `parse` refuses it; else at its least early fault;
-/// else, as `Unexpected`, at the first form that can't be carried out yet: `while`, `for`, `break`, `continue`, `throw`,
-/// `try` and `new`.
+/// Its nodes are those of the text's one tree, each form under the number that the tree gives it;
+/// what the parser made on its way and took back is not among them. A text is refused as `parse`
+/// refuses it; else at its least early fault; else, as `Unexpected`, at the first form that isn't
+/// built: a `new`.
 pub fn read_script(alloc: Global, text: &[u8]) -> Result<Checked, SyntaxFault>
     requires { length text.now < 2 ^ 32 }
 

@@ -1,5 +1,6 @@
 -- What is an early fault of a tree, and where.
--- ECMA-262, Static Semantics: Early Errors of AssignmentExpression, UpdateExpression, BreakStatement, ContinueStatement and ReturnStatement; docs/SCRIPTS.md, "Early faults".
+-- ECMA-262, Static Semantics: Early Errors of AssignmentExpression, UpdateExpression,
+-- BreakStatement, ContinueStatement and ReturnStatement; docs/SCRIPTS.md, "Early faults".
 use Rattle.std.specs.Prelude.{ℕ, Bool, true, false, ◌&&◌, not, List, [], ◌∷◌, ◌++◌, if◌then◌else◌}
 use Rattle.js_syntax.specs.declared.kind.Kind.{Kind}
 use Rattle.js_syntax.specs.declared.kind.Kind.TheVariants as kinds
@@ -41,7 +42,8 @@ bad_target kind (tree target parts rest) =
 
 -- ---- loops and functions
 
--- what stands around the parts of a form: the loop that it is; the function that it is, in which no loop goes on
+-- what stands around the parts of a form: the loop that it is; the function that it is, in which no
+-- loop goes on
 abbrev pub within : Around → Kind → Around
 within around kinds.While = record { in_function = around.in_function; in_loop = true }
 within around kinds.For = record { in_function = around.in_function; in_loop = true }
@@ -50,7 +52,8 @@ within around kinds.FunctionExpr = record { in_function = true; in_loop = false 
 within around kinds.Arrow = record { in_function = true; in_loop = false }
 within around _ = around
 
--- a `break` or `continue` outside a loop of its function, and a `return` outside a function, are faults
+-- a `break` or `continue` outside a loop of its function, and a `return` outside a function, are
+-- faults
 abbrev pub stray : Around → Kind → ℕ → List Fault
 stray around kinds.Break place = if around.in_loop then [] else fault StrayBreak place ∷ []
 stray around kinds.Continue place = if around.in_loop then [] else fault StrayBreak place ∷ []

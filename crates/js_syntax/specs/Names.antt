@@ -1,5 +1,6 @@
 -- The names that a list may declare once, and the faults of declaring one twice.
--- ECMA-262, Static Semantics: Early Errors of Block, FunctionBody, Try and LexicalDeclaration; docs/SCRIPTS.md, "Early faults".
+-- ECMA-262, Static Semantics: Early Errors of Block, FunctionBody, Try and LexicalDeclaration;
+-- docs/SCRIPTS.md, "Early faults".
 use Rattle.std.specs.Prelude.{ℕ, Bool, true, false, ◌&&◌, not, nat_eq, List, [], ◌∷◌, ◌++◌, Option, None, Some, if◌then◌else◌}
 use Rattle.std.specs.List.{list_any}
 use lib.Pointwise.{pointwise}
@@ -26,8 +27,8 @@ own_name by_function None place = []
 own_name by_function (Some name) place =
     record { name = name; place = place; by_function = by_function } ∷ []
 
--- what a statement declares in its list: the names of a `let` or `const`, and, where functions count, that of a
--- function
+-- what a statement declares in its list: the names of a `let` or `const`, and, where functions
+-- count, that of a function
 abbrev pub declares : Bool → Kind → Head → List Declared
 declares functions kinds.Let head = named (head.names) (head.places)
 declares functions kinds.Const head = named (head.names) (head.places)
@@ -65,8 +66,9 @@ abbrev pub catch_list : Trees → Trees
 catch_list nothing = nothing
 catch_list (tree tried kids rest) = block_list rest
 
--- the names that must differ in a form: those of one `let` or `const`; those that a list declares; the parameters
--- of a function with what `let` and `const` declare in its body; the name of a `catch` with all that its block declares
+-- the names that must differ in a form: those of one `let` or `const`; those that a list declares;
+-- the parameters of a function with what `let` and `const` declare in its body; the name of a
+-- `catch` with all that its block declares
 abbrev pub must_differ : Kind → Head → Trees → List Declared
 must_differ kinds.Let head kids = named (head.names) (head.places)
 must_differ kinds.Const head kids = named (head.names) (head.places)
@@ -91,7 +93,8 @@ may_share _ = false
 
 -- ---- names declared twice
 
--- two declarations are of one name, and the list doesn't let them share it, as it may let two functions
+-- two declarations are of one name, and the list doesn't let them share it, as it may let two
+-- functions
 abbrev pub collide : Bool → Declared → Declared → Bool
 collide shared it other =
     pointwise nat_eq (it.name) (other.name) && not (shared && (it.by_function && other.by_function))

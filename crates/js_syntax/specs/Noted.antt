@@ -150,7 +150,8 @@ own_fault nodes node =
 abbrev pub around_of : Bool → Bool → Around
 around_of in_function in_loop = record { in_function = in_function; in_loop = in_loop }
 
--- the fault that is told of a node and its parts in such a place, where `own` is that of its own names and targets
+-- the fault that is told of a node and its parts in such a place, where `own` is that of its own
+-- names and targets
 abbrev pub fault_over : List Faults → Node → Option Fault → Around → Option Fault
 fault_over noted node own around =
     earlier_of (least (stray around (node.kind) (node.place))) (earlier_of own (parts_fault noted (within around (node.kind)) (node.kids)))

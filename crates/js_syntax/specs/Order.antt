@@ -16,7 +16,8 @@ number_of BadTarget = 11
 number_of StrayBreak = 12
 number_of StrayReturn = 13
 
--- a fault is told before another where its place is lower, or its place is the same and its number is lower
+-- a fault is told before another where its place is lower, or its place is the same and its number
+-- is lower
 abbrev pub IsBefore : Fault → Fault → Type 0
 IsBefore a b = (a.place < b.place) ⊎ ((a.place ≡ b.place) × (number_of (a.kind) < number_of (b.kind)))
 

@@ -1,5 +1,6 @@
 -- The trees under the nodes of a script.
--- This project's own: a script's nodes stand in one list, and this says which trees they are; docs/SCRIPTS.md.
+-- This project's own: a script's nodes stand in one list, and this says which trees they are;
+-- docs/SCRIPTS.md.
 use Rattle.std.specs.Prelude.{◌≡◌, ℕ, ◌+◌, List, [], ◌∷◌, length, slice_get, Option, Some, ℤ}
 use Rattle.js_syntax.specs.declared.kind.Kind.{Kind}
 use Rattle.js_syntax.specs.declared.node.Node.{Node}

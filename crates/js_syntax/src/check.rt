@@ -27,9 +27,9 @@ fn refusal_kind(kind: FaultKind) -> RefusalKind
 /// Checks a script for early faults (ECMA-262, Static Semantics: Early Errors, with the differences
 /// that docs/SCRIPTS.md names). It takes no memory.
 ///
-/// `Refused` comes exactly where the tree under the script's root has an early fault. The refusal is
-/// that of the fault that stands first, and of two at one byte that with the lower number; it has no
-/// word. The script is handed back as it was.
+/// `Refused` comes exactly where the tree under the script's root has an early fault. The refusal
+/// is that of the fault that stands first, and of two at one byte that with the lower number; it
+/// has no word. The script is handed back as it was.
 pub fn early(script: Script) -> Result<Checked, EarlyFault>
     ensures ok { IfOk result (λ checked. checked ≡ script) }
     ensures refused { IfErr result (Refuses script) }

@@ -36,7 +36,8 @@ impl FaultKind {
 }
 
 impl Fault {
-    /// Whether this fault is told before the other: it stands earlier, or there too and has the lower number.
+    /// Whether this fault is told before the other: it stands earlier, or there too and has the
+    /// lower number.
     pub(crate) fn is_before(self, other: Fault) -> bool
         ensures { result ≡ is_before self other }
     {

@@ -100,7 +100,8 @@ fn parts_fault(noted: &[Faults], around: Around, kids: &[u32]) -> Option<Fault>
     told
 }
 
-// The fault that is told of a node and its parts in such a place, where `own` is that of its own names and targets.
+// The fault that is told of a node and its parts in such a place, where `own` is that of its own
+// names and targets.
 fn fault_with(
     noted: &[Faults],
     node: &Node,

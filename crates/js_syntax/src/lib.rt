@@ -1,8 +1,10 @@
-//! The syntax of a script: nodes by number, why a text is refused, and whether a script has an early fault.
+//! The syntax of a script: nodes by number, and whether their tree has an early fault.
 //!
 //! Contracts see a `Script` as the list of its nodes, the one added last being the root.
-//! Rely on: each kid stands below its parent, and each node has the name, names and kids that its kind asks for.
-//! Over `ivm_text` and `ivm_text`; under `js_trees`, `parser_rules` and all that reads or runs scripts.
+//! Rely on: each kid stands below its parent, and each node has the name, names and kids that its
+//! kind asks for.
+//! Over `ivm_text` and `indexmap`; under `js_trees`, `parser_rules` and all that reads or runs
+//! scripts.
 //! Begin with `specs/Shape.antt` and `specs/Tree.antt`, then `src/script.rt`.
 #![tactic(auto)]
 

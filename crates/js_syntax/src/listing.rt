@@ -7,7 +7,8 @@ use crate::{Kind, Names, Node, Places};
 use ivm_text::{CloneWhole, NoMemory, Units};
 use std::alloc::Global;
 
-/// A name that is declared, the byte at which it stands, and whether a function declares it as its own.
+/// A name that is declared, the byte at which it stands, and whether a function declares it as its
+/// own.
 #[derive(Debug, Drop)]
 pub struct Declared {
     pub name: Units,

@@ -16,7 +16,8 @@ pub type Kids = Items<u32>;
 #[derive(Debug, Drop)]
 pub struct Node {
     pub kind: Kind,
-    /// The name of a function, a member, a constructor, a `catch` or a Name, and what a string stands for.
+    /// The name of a function, a member, a constructor, a `catch` or a Name, and what a string
+    /// stands for.
     pub name: Option<Units>,
     /// Where the name stands; 0 without one.
     pub name_place: u32,

@@ -56,8 +56,8 @@ impl Script {
         node.kids.as_slice().iter().all(|kid| *kid < length) && is_formed(node)
     }
 
-    /// Adds a node, which is the root until the next one is added, and gives its number. Only want of
-    /// memory refuses it, and then the script is as it was.
+    /// Adds a node, which is the root until the next one is added, and gives its number. Only want
+    /// of memory refuses it, and then the script is as it was.
     pub fn add(&mut self, node: Node) -> Result<u32, NoMemory>
         requires kids { AreBelow node.kids (length self.old) }
         requires formed { IsFormed node }
@@ -115,8 +115,8 @@ impl Script {
         let _nodes = self.nodes.len();
     }
 
-    /// The early fault of the script's tree that stands first, and of two at one place that with the
-    /// lower number. None where there is no fault, and none without a node.
+    /// The early fault of the script's tree that stands first, and of two at one place that with
+    /// the lower number. None where there is no fault, and none without a node.
     pub fn early_fault(&self) -> Option<Fault>
         ensures some { IfSome result (HasEarlyFault self.now) }
         ensures none { IfNone result (HasNoEarlyFault self.now) }

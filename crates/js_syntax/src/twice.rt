@@ -48,7 +48,8 @@ impl Earlier {
     }
 }
 
-/// The fault that is told of names that must differ. Two functions may share a name where `shared` says so.
+/// The fault that is told of names that must differ. Two functions may share a name where `shared`
+/// says so.
 pub(crate) fn first_twice(
     alloc: Global,
     shared: bool,

@@ -1,5 +1,6 @@
 -- What the statements of a list declare, in the order of the text.
--- ECMA-262, LexicallyScopedDeclarations and TopLevelLexicallyDeclaredNames; docs/SCRIPTS.md, "Names that must differ".
+-- ECMA-262, LexicallyScopedDeclarations and TopLevelLexicallyDeclaredNames; docs/SCRIPTS.md, "Names
+-- that must differ".
 use Rattle.std.specs.Prelude.{ℕ, List, [], ◌∷◌, ◌++◌, Option, None, Some, map}
 use Rattle.js_syntax.specs.declared.kind.Kind.{Kind}
 use Rattle.js_syntax.specs.declared.kind.Kind.TheVariants as kinds

@@ -1,5 +1,6 @@
 -- What a form of a kind has, and which kinds are functions.
--- ECMA-262, ECMAScript Language: Functions and Classes; what each kind asks for is this project's own: docs/SCRIPTS.md, "Nodes and places".
+-- ECMA-262, ECMAScript Language: Functions and Classes; what each kind asks for is this project's
+-- own: docs/SCRIPTS.md, "Nodes and places".
 use Rattle.std.specs.Prelude.{Bool, true, false, length}
 use Rattle.js_syntax.specs.declared.kind.Kind.{Kind}
 use Rattle.js_syntax.specs.declared.kind.Kind.TheVariants as kinds

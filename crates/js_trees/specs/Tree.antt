@@ -1,5 +1,6 @@
 -- The tree under a node of a script, as a function of the script's nodes.
--- This project's own: a script's nodes stand in one list, each kid below its parent; docs/SCRIPTS.md, "Nodes and places".
+-- This project's own: a script's nodes stand in one list, each kid below its parent;
+-- docs/SCRIPTS.md, "Nodes and places".
 use Rattle.std.specs.Prelude.{ℕ, zero, suc, pos, List, [], ◌∷◌, nat_lt, length, ◌-◌, slice_index_or, None, if◌then◌else◌}
 use Rattle.js_syntax.specs.declared.kind.Kind.TheVariants as kinds
 use Rattle.js_syntax.specs.declared.node.Node.{Node}
@@ -58,7 +59,8 @@ tree_by at n node = record { head = head_of n node; kids = trees_by at (node.kid
 abbrev pub only_below : ℕ → (ℕ → Tree) → ℕ → Tree
 only_below n at k = if nat_lt k n then at k else absent
 
--- the tree under node n, at most so many levels deep; a part is the tree of a kid that stands below its parent
+-- the tree under node n, at most so many levels deep; a part is the tree of a kid that stands below
+-- its parent
 unfoldable pub tree_within : ℕ → List Node → ℕ → Tree
 tree_within zero nodes n = absent
 tree_within (suc levels) nodes n = tree_by (only_below n (tree_within levels nodes)) n (node_at nodes n)

@@ -72,8 +72,8 @@ fn add_declared(
     }
 }
 
-/// What the parts of a node declare, in order: the names of each `let` and `const`, and each function declaration
-/// with its node. Only want of memory refuses it.
+/// What the parts of a node declare, in order: the names of each `let` and `const`, and each
+/// function declaration with its node. Only want of memory refuses it.
 pub fn declarations(alloc: Global, script: &Script, n: u32) -> Result<Declarations, NoMemory>
     requires { n < length script.now }
     ensures { IfOk result (λ list. list ≡ declared ((tree_of script.now n).kids)) }

@@ -16,7 +16,8 @@ pub fn has_tree(script: &Script, n: u32)
     }
 }
 
-/// The tree under the root is the tree of the script, which has no other. It looks at each node once.
+/// The tree under the root is the tree of the script, which has no other. It looks at each node
+/// once.
 pub fn has_one_tree(script: &Script)
     requires { 0 < length script.now }
 

@@ -9,8 +9,8 @@ use crate::form::form;
 use ivm_text::Units;
 use js_syntax::{Kind, Names, Script};
 
-/// The kind of a node. Its tree has the name, the names and the parts that the kind asks for, and knows
-/// the number of the node.
+/// The kind of a node. Its tree has the name, the names and the parts that the kind asks for, and
+/// knows the number of the node.
 pub fn kind(script: &Script, n: u32) -> Kind
     requires { n < length script.now }
 
@@ -51,7 +51,8 @@ pub fn kid(script: &Script, n: u32, i: u32) -> u32
     form(script, n).kids.as_slice()[i as usize]
 }
 
-/// The name that a node has of its own, as a function's, a member's or that of a `catch`. Some kinds have none.
+/// The name that a node has of its own, as a function's, a member's or that of a `catch`. Some
+/// kinds have none.
 pub fn name(script: &Script, n: u32) -> Option<&Units>
     requires { n < length script.now }
     ensures { option_copied result ≡ ((tree_of script.now n).head).name }
@@ -68,7 +69,8 @@ pub fn own_name(script: &Script, n: u32) -> &Units
     form(script, n).name.as_ref().unwrap()
 }
 
-/// The names of a node: what a `let` or `const` declares, a function's parameters, or an object's keys.
+/// The names of a node: what a `let` or `const` declares, a function's parameters, or an object's
+/// keys.
 pub fn names(script: &Script, n: u32) -> &Names
     requires { n < length script.now }
     ensures { result.now ≡ ((tree_of script.now n).head).names }

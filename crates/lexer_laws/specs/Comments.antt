@@ -14,7 +14,8 @@ pub record EndsAt (text body rest : Text) : Type 0 where
   pub closes : ClosesAt text body rest
   pub first : (other more : Text) → ClosesAt text other more → length body ≤ length other
 
--- what is behind the first `*/`, and whether a line terminator stands before it; nothing where there is no `*/`
+-- what is behind the first `*/`, and whether a line terminator stands before it; nothing where
+-- there is no `*/`
 pub record CommentEnds (text : Text) : Type 0 where
   pub ended : (line : Bool) (rest : Text)
       → (past_star false text ≡ Some (line, rest)) ↔ ((body : Text) × EndsAt text body rest × (list_any is_line body ≡ line))

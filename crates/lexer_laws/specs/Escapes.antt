@@ -15,7 +15,8 @@ pub data StandsFor : ℕ → ℕ → Type 0 where
   tabulator : StandsFor 116 9
   vertical_tabulator : StandsFor 118 11
 
--- a character that stands for itself: neither one of those nor a digit, `x`, `u` or a line terminator
+-- a character that stands for itself: neither one of those nor a digit, `x`, `u` or a line
+-- terminator
 pub record StandsForItself (c : ℕ) : Type 0 where
   pub other : (d : ℕ) → ¬ (StandsFor c d)
   pub no_digit : is_digit c ≡ false
@@ -23,7 +24,8 @@ pub record StandsForItself (c : ℕ) : Type 0 where
   pub no_x : c ≢ 120
   pub no_u : c ≢ 117
 
--- an escape: the text behind the backslash, the code point that it stands for or nothing, and the rest behind it
+-- an escape: the text behind the backslash, the code point that it stands for or nothing, and the
+-- rest behind it
 pub data Escapes : Text → Option ℕ → Text → Type 0 where
   single : {c d : ℕ} {rest : Text} → StandsFor c d → Escapes (c ∷ rest) (Some d) rest
   itself : {c : ℕ} {rest : Text} → StandsForItself c → Escapes (c ∷ rest) (Some c) rest

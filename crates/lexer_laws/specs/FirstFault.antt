@@ -7,7 +7,8 @@ use Rattle.std.specs.Str.{IsUtf8}
 abbrev pub BeginsText : List ℕ → Type 0
 BeginsText bytes = (more : List ℕ) × IsUtf8 (bytes ++ more)
 
--- some text begins with the bytes before this place, and none with those and the byte at it; or the bytes end there
+-- some text begins with the bytes before this place, and none with those and the byte at it; or the
+-- bytes end there
 pub record IsFirstFault (bytes : List ℕ) (place : ℕ) : Type 0 where
   pub within : place ≤ length bytes
   pub before : BeginsText (take place bytes)

@@ -26,7 +26,8 @@ pub data Writes : Text → ℕ → Type 0 where
   hexadecimal_digits : {x c : ℕ} {cs : Text} → is_x x ≡ true → IsDigitTo 16 c → All (IsDigitTo 16) cs
       → Writes (48 ∷ x ∷ c ∷ cs) (value_behind 16 (digit_value c) cs)
 
--- the text is a literal of the number n, which scripts have, and the rest, which may stand at once behind it
+-- the text is a literal of the number n, which scripts have, and the rest, which may stand at once
+-- behind it
 pub record NumberStands (text : Text) (n : ℕ) (rest : Text) : Type 0 where
   pub literal : Text
   pub whole : text ≡ literal ++ rest
@@ -34,6 +35,7 @@ pub record NumberStands (text : Text) (n : ℕ) (rest : Text) : Type 0 where
   pub in_range : n ≤ max_number
   pub apart : clings rest ≡ false
 
--- a text whose first character is a digit begins with a number exactly where such a literal stands there
+-- a text whose first character is a digit begins with a number exactly where such a literal stands
+-- there
 abbrev pub IsNumberThere : ℕ → Text → Type 0
 IsNumberThere c t = is_digit c ≡ true → (n : ℕ) (rest : Text) → (number c t ≡ Some (n, rest)) ↔ NumberStands (c ∷ t) n rest

@@ -1,5 +1,6 @@
 -- What each token is to the grammar.
--- ECMA-262, Keywords and Reserved Words; Punctuators; docs/SCRIPTS.md, "Reserved words" and "Out of profile".
+-- ECMA-262, Keywords and Reserved Words; Punctuators; docs/SCRIPTS.md, "Reserved words" and "Out of
+-- profile".
 use Rattle.std.specs.Prelude.{ℕ, Bool, true, false, ◌&&◌, ◌||◌, List, [], ◌∷◌, nat_eq, codes, if◌then◌else◌}
 use Rattle.std.specs.List.{list_any}
 use Rattle.std.specs.Str.{bytes_eq}
@@ -30,7 +31,8 @@ words =
     ∷ entry (codes "undefined") classes.Undefined ∷ entry (codes "null") classes.Null
     ∷ entry (codes "true") classes.True ∷ entry (codes "false") classes.False ∷ []
 
--- words of ECMA-262 that no script of this project has, but as keys and behind a dot; `new` is told apart below
+-- words of ECMA-262 that no script of this project has, but as keys and behind a dot; `new` is told
+-- apart below
 unfoldable pub foreign_words : List (List ℕ)
 foreign_words =
     codes "arguments" ∷ codes "eval" ∷ codes "case" ∷ codes "class" ∷ codes "debugger" ∷ codes "default"

@@ -97,7 +97,8 @@ function_expression =
 unfoldable pub concise_body : Rule
 concise_body = either (at BraceOpen) body (inside Expression)
 
--- the rest of an ArrowFunction whose parameters were read; no line terminator stands before the `=>`
+-- the rest of an ArrowFunction whose parameters were read; no line terminator stands before the
+-- `=>`
 unfoldable pub arrow : Rule
 arrow = act clear ▸ take (sees_on_line (Arrow ∷ [])) ▸ concise_body ▸ act close
 
@@ -208,7 +209,8 @@ prefix = act open_prefix ▸ take (sees prefix_operators) ▸ operand ▸ act cl
 
 -- ---- operators between operands
 
--- an operator between operands, and its right operand, behind which `tighter` reads what binds tighter
+-- an operator between operands, and its right operand, behind which `tighter` reads what binds
+-- tighter
 abbrev pub binary : List Class → Rule → Rule
 binary operators tighter = act precede_operator ▸ take (sees operators) ▸ operand ▸ tighter ▸ act close
 
@@ -275,7 +277,8 @@ conditional = short_circuit ▸ either (at Question) choice nothing_more
 unfoldable pub assigned : Rule
 assigned = act precede_operator ▸ take (sees assignments) ▸ inside Expression ▸ act close
 
--- AssignmentExpression, behind what calls and members may follow: only that may stand to the left of `=`
+-- AssignmentExpression, behind what calls and members may follow: only that may stand to the left
+-- of `=`
 unfoldable pub assignment : Rule
 assignment = calls ▸ either (sees assignments) assigned (postfix ▸ conditional)
 

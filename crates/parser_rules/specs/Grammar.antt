@@ -60,7 +60,8 @@ limit = 200
 abbrev pub at_start : List Token → State
 at_start ts = going (record { rest = ts; made = 0; top = fresh kinds.Script 0; below = fresh kinds.Absent 0 ∷ [] })
 
--- what reading the tokens of a text comes to, by the rule for the whole of it, where so many levels may be open
+-- what reading the tokens of a text comes to, by the rule for the whole of it, where so many levels
+-- may be open
 abbrev pub reading : ℕ → Rule → List Token → State
 reading levels whole ts = run (within levels) whole (at_start ts)
 
@@ -76,7 +77,8 @@ abbrev pub word_of : Class → List ℕ → Option (List ℕ)
 word_of classes.Foreign text = Some text
 word_of _ text = None
 
--- the refusal of a text of so many bytes whose first bad token is in view; without one it is the text's end
+-- the refusal of a text of so many bytes whose first bad token is in view; without one it is the
+-- text's end
 abbrev pub refusal_at : ℕ → Why → List Token → Refusal
 refusal_at end why [] = record { kind = kind_of why classes.End; place = end; word = None }
 refusal_at end why (t ∷ ts) = let c = class_of (t ∷ ts) in record { kind = kind_of why c; place = t.place; word = word_of c t.text }

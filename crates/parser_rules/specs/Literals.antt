@@ -1,4 +1,4 @@
--- The rules of literals and of texts of arguments, which are no scripts but values that a host hands over.
+-- The rules of literals and of texts of arguments: the values that a host hands over.
 -- This project's own, within ECMA-262's literals; docs/SCRIPTS.md, "Literals and arguments".
 use Rattle.std.specs.Prelude.{List, [], ◌∷◌}
 use Rattle.js_syntax.specs.declared.kind.Kind.TheVariants as kinds

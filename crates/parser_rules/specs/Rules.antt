@@ -1,5 +1,6 @@
 -- Rules, as lists of steps, and what a rule does with tokens: one token of view decides.
--- This project's own, in the manner of ECMA-262's Grammar Notation; docs/SCRIPTS.md, "How the grammar is written".
+-- This project's own, in the manner of ECMA-262's Grammar Notation; docs/SCRIPTS.md, "How the
+-- grammar is written".
 use Rattle.std.specs.Prelude.{◌≡◌, ℕ, zero, suc, ℤ, pos, codes, Bool, true, false, not, ◌&&◌, ◌||◌, List, [], ◌∷◌, length, if◌then◌else◌}
 use Rattle.std.specs.Ordering.{int_eq}
 use Rattle.js_syntax.specs.declared.kind.Kind.{Kind}
@@ -37,7 +38,8 @@ pub data Test : Type 0 where
   sees_passing : Test
   -- a line terminator stands before it
   after_line : Test
-  -- a statement may end before it without a `;`: it is `}`, or the end, or a line terminator stands before it
+  -- a statement may end before it without a `;`: it is `}`, or the end, or a line terminator stands
+  -- before it
   may_end : Test
   -- what was read behind a `(` may be parameters
   may_be_parameters : Test

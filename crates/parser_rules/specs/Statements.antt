@@ -1,5 +1,6 @@
 -- The rules of statements and declarations.
--- ECMA-262, Statements and Declarations; Automatic Semicolon Insertion; docs/SCRIPTS.md, "Statements".
+-- ECMA-262, Statements and Declarations; Automatic Semicolon Insertion; docs/SCRIPTS.md,
+-- "Statements".
 use Rattle.std.specs.Prelude.{List, [], ◌∷◌}
 use Rattle.js_syntax.specs.declared.kind.Kind.{Kind}
 use Rattle.js_syntax.specs.declared.kind.Kind.TheVariants as kinds
@@ -25,7 +26,8 @@ item_begins = Let ∷ Const ∷ Function ∷ statement_begins
 
 -- ---- ends
 
--- A `;`, or the end of the statement without one. What was read before is the longest that can be read, so the token in view continues nothing.
+-- A `;`, or the end of the statement without one. What was read before is the longest that can be
+-- read, so the token in view continues nothing.
 unfoldable pub ends : Rule
 ends = either (at Semicolon) (token Semicolon) (either may_end nothing_more refuse)
 
@@ -83,7 +85,8 @@ else_branch = token Else ▸ inside Statement
 unfoldable pub alternative : Rule
 alternative = either (at Else) else_branch (act omit)
 
--- IfStatement: an `else` belongs to the nearest `if` that can take it, since that one takes it first
+-- IfStatement: an `else` belongs to the nearest `if` that can take it, since that one takes it
+-- first
 unfoldable pub if_statement : Rule
 if_statement =
     act (open_form kinds.If) ▸ token If ▸ condition ▸ inside Statement ▸ alternative ▸ act close
@@ -127,7 +130,8 @@ ended_expression = expression_list ▸ ends
 unfoldable pub nothing_returned : Rule
 nothing_returned = act omit ▸ ends
 
--- what a `return` gives: nothing in front of `;`, `}` and the end, and behind a line terminator, which ends the statement
+-- what a `return` gives: nothing in front of `;`, `}` and the end, and behind a line terminator,
+-- which ends the statement
 unfoldable pub returned : Rule
 returned =
     either after_line (act omit)

@@ -30,7 +30,8 @@ pub record Frame : Type 0 where
   pub cover : Cover
   pub parts : List Part
 
--- the tokens that are left, how many nodes were made, the innermost open form, and those around it from the inside out
+-- the tokens that are left, how many nodes were made, the innermost open form, and those around it
+-- from the inside out
 pub record Work : Type 0 where
   pub rest : List Token
   pub made : ℕ
@@ -128,7 +129,8 @@ paired_of kind (b ∷ a ∷ ps) w = added (pair_of kind a b) (record w { top = r
 abbrev pub paired : Kind → Work → Work
 paired kind w = paired_of kind w.top.parts w
 
--- the innermost form was only parentheses: its part belongs to the form around it, and starts at the `(`
+-- the innermost form was only parentheses: its part belongs to the form around it, and starts at
+-- the `(`
 abbrev pub unwrapped_in : List Part → List Frame → Work → Work
 unwrapped_in [] fs w = w
 unwrapped_in (p ∷ ps) [] w = w
@@ -159,7 +161,8 @@ is_number _ = false
 abbrev pub key_of : TokenKind → List ℕ → ℤ → List ℕ
 key_of kind text n = if is_number kind then signed_decimal n else text
 
--- the form's name, one more of its names, one more key, and its value are those of the token in view
+-- the form's name, one more of its names, one more key, and its value are those of the token in
+-- view
 abbrev pub named_by : List Token → Work → Work
 named_by [] w = w
 named_by (t ∷ ts) w = with_own_name t.text t.place w
@@ -216,7 +219,8 @@ abbrev pub offered_as : Option (List ℕ × ℕ) → Work → Work
 offered_as None w = only_expressions w
 offered_as (Some p) w = with_one_name p.0 p.1 w
 
--- the part read last may be a parameter where it is a bare name; else the parentheses hold expressions
+-- the part read last may be a parameter where it is a bare name; else the parentheses hold
+-- expressions
 abbrev pub offered_part : List Part → Work → Work
 offered_part [] w = w
 offered_part (p ∷ ps) w = offered_as (bare_name p) w
