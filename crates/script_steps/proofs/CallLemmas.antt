@@ -55,14 +55,7 @@ plain_is_held _ is = absurd is
 pub plain_held : (s : Store) (n : ℕ) → IsAt IsPlain s n → IsAt IsHeld s n
 plain_held s n at = record { there = at.there; fits = plain_is_held (kind_of (item_at s n)) at.fits }
 
--- ---- stores that have grown
-
-pub site_grows : (s t : Store) (site : Site) → Grows s t → IsSoundSite s site → IsSoundSite t site
-site_grows s t site grows sound = record {
-  scope = at_grows s t site.scope grows sound.scope;
-  global = at_grows s t site.global grows sound.global;
-  receiver = value_grows s t site.receiver grows sound.receiver;
-}
+-- ---- sites that stay sound
 
 -- in another scope, of a store that has grown
 pub site_in : (s t : Store) (site : Site) (scope : ℕ) → Grows s t → IsSoundSite s site → IsAt IsScope t scope

@@ -4,10 +4,11 @@ ghost use Rattle.std.specs.List.{All};
 ghost use Rattle.charged_heap.specs.Closed.{IsClosed, IsSoundValue};
 ghost use Rattle.charged_heap.specs.Growth.{Grows};
 ghost use Rattle.charged_heap.specs.Store.{Store, IsAt, IsScope, item_at};
+ghost use Rattle.js_trees.specs.Forms.{is_function_kind};
 ghost use Rattle.js_trees.specs.Tree.{kid};
 ghost use Rattle.charged_heap.specs.Ends.{IsSoundFail, Meets};
 ghost use Rattle.js_scopes.specs.Lists.{call_scope};
-ghost use Rattle.script_meaning.specs.Functions.{is_body, is_function, this_of, body_declares, body_rule, enter_rule, item_call, call_rule};
+ghost use Rattle.script_meaning.specs.Functions.{is_body, this_of, body_declares, body_rule, enter_rule, item_call, call_rule};
 ghost use Rattle.script_meaning.specs.Places.{form_at};
 ghost use Rattle.script_steps.specs.After.{after, Steps, Waits};
 ghost use Rattle.script_steps.specs.Called.{closure_of, closure_call};
@@ -28,7 +29,7 @@ use std::alloc::Global;
 
 /// Whether a form is a function.
 fn is_function(kind: Kind) -> bool
-    ensures { result ≡ is_function kind }
+    ensures { result ≡ is_function_kind kind }
 {
     matches!(kind, Kind::FunctionDecl | Kind::FunctionExpr | Kind::Arrow)
 }
@@ -107,9 +108,7 @@ fn scope_of_call(
     ensures thrown { IfErr result (IsSoundFail heap.new) }
 {
     let body = kid_at(scripts, site.script, node, 0);
-    let declared = body_declarations(alloc, scripts, site.script, body).map_err(
-        |_| Fail::NoMemory,
-    )?;
+    let declared = body_declarations(alloc, scripts, site.script, body)?;
     let parameters = names_at(scripts, site.script, node);
     js_scopes::call_scope(
         alloc,

@@ -70,7 +70,7 @@ fn add_element(alloc: Global, heap: &mut Heap, array: u32, value: Value) -> Resu
 }
 
 /// Adds an element to its array, and goes on with the next.
-#[tactic(auto, unfolding(crate::specs::After::after), using(crate::proofs::CallLemmas::site_grows))]
+#[tactic(auto, unfolding(crate::specs::After::after), using(crate::proofs::Growing::site_grows))]
 pub(crate) fn element(
     alloc: Global,
     scripts: &Scripts,
@@ -110,7 +110,7 @@ fn make_array(alloc: Global, heap: &mut Heap) -> Result<u32, Fail>
 }
 
 /// Begins an array: it is made before its first element is evaluated.
-#[tactic(auto, unfolding(script_meaning::specs::Expressions::array_rule), using(crate::proofs::CallLemmas::made_value, crate::proofs::CallLemmas::made_refused, crate::proofs::CallLemmas::site_grows))]
+#[tactic(auto, unfolding(script_meaning::specs::Expressions::array_rule), using(crate::proofs::CallLemmas::made_value, crate::proofs::CallLemmas::made_refused, crate::proofs::Growing::site_grows))]
 pub(crate) fn begin_array(
     alloc: Global,
     scripts: &Scripts,
@@ -204,7 +204,7 @@ fn add_property(
 }
 
 /// Gives an object a property, and goes on with the next.
-#[tactic(auto, unfolding(crate::specs::After::after), using(crate::proofs::CallLemmas::site_grows))]
+#[tactic(auto, unfolding(crate::specs::After::after), using(crate::proofs::Growing::site_grows))]
 pub(crate) fn property(
     alloc: Global,
     scripts: &Scripts,
@@ -246,7 +246,7 @@ fn make_object(alloc: Global, heap: &mut Heap) -> Result<u32, Fail>
 }
 
 /// Begins an object: it is made before its first property is evaluated.
-#[tactic(auto, unfolding(script_meaning::specs::Expressions::object_rule), using(crate::proofs::CallLemmas::made_value, crate::proofs::CallLemmas::made_refused, crate::proofs::CallLemmas::site_grows))]
+#[tactic(auto, unfolding(script_meaning::specs::Expressions::object_rule), using(crate::proofs::CallLemmas::made_value, crate::proofs::CallLemmas::made_refused, crate::proofs::Growing::site_grows))]
 pub(crate) fn begin_object(
     alloc: Global,
     scripts: &Scripts,
