@@ -66,6 +66,7 @@ def files(crate, folder, ending):
 
 def imports(text):
     """What `use` lines name of the repository's definitions: (crate, path, names)."""
-    line = r"^\s*(?:pub )?(?:ghost )?(?:open )?use Rattle\.(\w+)\.specs\.([\w.]+?)\.?(?:\{([^}]*)\})?(?: as \w+)?;?\s*$"
+    begins = r"^\s*(?:pub )?(?:ghost )?(?:open )?use Rattle\."
+    line = begins + r"(\w+)\.specs\.([\w.]+?)\.?(?:\{([^}]*)\})?(?: as \w+)?;?\s*$"
     for crate, path, names in re.findall(line, text, re.M):
         yield crate, path, [name.split(" as ")[-1].strip() for name in names.split(",")]
