@@ -168,6 +168,32 @@ fn await_value(scripts: &Scripts, node: u32, place: u32, site: Site, initialiser
     Step::value(Frame::Declarator { node, place, site }, initialiser, site)
 }
 
+/// Gives undefined to the names of a `let` or `const` from a place on, up to the first that has an initialiser. Answers
+/// the place of that one, or one where no name is.
+#[tactic(auto, using(crate::proofs::Growing::growing))]
+fn leave_all_undefined(scripts: &Scripts, heap: &mut Heap, node: u32, place: u32, site: Site) -> u32
+    requires { IsSoundSite heap.old site }
+    ensures passes { (at : Inside) (left : ℕ) → declare_rule at (drop place ((form_at scripts.now site.script node).head).names) (kids_from place ((form_at scripts.now site.script node).kids)) site (with_left heap.old left) ≡ declare_rule at (drop result ((form_at scripts.now site.script node).head).names) (kids_from result ((form_at scripts.now site.script node).kids)) site (with_left heap.new left) }
+    ensures next { result < kid_count ((form_at scripts.now site.script node).kids) → result < length ((form_at scripts.now site.script node).head).names → ((kid result ((form_at scripts.now site.script node).kids)).head).kind ≢ Kind.Absent }
+    ensures grown { Grows heap.old heap.new }
+    ensures closed { IsClosed heap.old → IsClosed heap.new }
+    ensures site { IsSoundSite heap.new site }
+{
+    let mut next = place;
+    while next < kid_count_at(scripts, site.script, node) {
+        let Some(name) = name_in(scripts, node, next, site) else {
+            return next;
+        };
+        let initialiser = kid_at(scripts, site.script, node, next);
+        if kind_at(scripts, site.script, initialiser) != Kind::Absent {
+            return next;
+        }
+        leave_undefined(scripts, heap, node, next, site, name);
+        next += 1;
+    }
+    next
+}
+
 /// The names of a `let` or `const` from a place on. A name without an initialiser gets undefined at once.
 #[tactic(auto, using(crate::proofs::Growing::growing, crate::proofs::ListLemmas::ends))]
 pub(crate) fn declare_from(
@@ -183,20 +209,15 @@ pub(crate) fn declare_from(
     ensures closed { IsClosed heap.old → IsClosed heap.new }
     ensures sound { IsSoundStep heap.new result }
 {
-    if place >= kid_count_at(scripts, site.script, node) {
+    let next = leave_all_undefined(scripts, heap, node, place, site);
+    if next >= kid_count_at(scripts, site.script, node) {
         return Step::Ended(Ok(Ended::Empty));
     }
-    let Some(name) = name_in(scripts, node, place, site) else {
+    if name_in(scripts, node, next, site).is_none() {
         return Step::Ended(Ok(Ended::Empty));
-    };
-    let initialiser = kid_at(scripts, site.script, node, place);
-    match kind_at(scripts, site.script, initialiser) {
-        Kind::Absent => {
-            leave_undefined(scripts, heap, node, place, site, name);
-            declare_from(scripts, heap, node, place + 1, site)
-        }
-        _ => await_value(scripts, node, place, site, initialiser),
     }
+    let initialiser = kid_at(scripts, site.script, node, next);
+    await_value(scripts, node, next, site, initialiser)
 }
 
 /// The names behind a place.
