@@ -72,7 +72,7 @@ fn perform(cell: &mut Cell, row: &Row, task: Task) -> Result<(), Error> {
     if !cell.may_perform(&task) {
         bail!("{}: a task that doesn't fit", row.place);
     }
-    cell.perform(&task)?;
+    cell.perform(task)?;
     Ok(())
 }
 

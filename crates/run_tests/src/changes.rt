@@ -8,7 +8,7 @@ use crate::values::{error_text, needs, units_of};
 use anyhow::{Error, bail};
 use charged_heap::{Fail, Heap, HeapFault, Item, PromiseState, Value};
 use ivm_text::Units;
-use js_ops::{make_text, throw};
+use js_ops::throw;
 use std::alloc::Global;
 use test_tables::Row;
 
@@ -38,6 +38,11 @@ fn make(alloc: Global, heap: &mut Heap, field: &str) -> Result<Result<Value, Fai
         Some((kind, message)) => Ok(throw(heap, kind, units_of(alloc, message)?)),
         None => Ok(make_text(heap, units_of(alloc, field)?)),
     }
+}
+
+/// A new string as a value.
+fn make_text(heap: &mut Heap, units: Units) -> Result<Value, Fail> {
+    Ok(Value::Item(charged_heap::make(heap, Item::Text(units))?))
 }
 
 /// What may ask for cells.

@@ -2,7 +2,7 @@
 //!
 //! Contracts see nothing here: it is a program that reads tables and prints which rows fail.
 //! Rely on: each answer was worked out by hand from docs/, or comes from outside.
-//! Over `test_tables`, `ivm_cli`, `isolate_core` and all under them; under no crate.
+//! Over `test_tables`, `ivm_cli` and all under them; under no crate.
 //! Begin with README.md, then `run_table` and `src/trials.rt`.
 #![tactic(auto)]
 

@@ -22,17 +22,7 @@ pub fn given_text(alloc: Global, heap: &Heap, given: Result<Value, Fail>) -> Res
     let end = match given {
         Ok(value) => Completion::Normal(value),
         Err(Fail::Throw(value)) => Completion::Throw(value),
-        Err(
-            Fail::Over {
-                charged,
-                asked,
-                limit,
-            },
-        ) => Completion::Stop(StopCause::Memory {
-            charged,
-            asked,
-            limit,
-        }),
+        Err(Fail::Over(overrun)) => Completion::Stop(StopCause::Memory(overrun)),
         Err(Fail::NoMemory) => bail!("no memory"),
     };
     end_text(alloc, heap, end)
@@ -51,13 +41,11 @@ pub fn end_text(alloc: Global, heap: &Heap, end: Completion) -> Result<String, E
             write_value(alloc, &mut out, heap, value)?;
         }
         Completion::Stop(StopCause::Timeout) => out.push_str("timeout")?,
-        Completion::Stop(
-            StopCause::Memory {
-                charged,
-                asked,
-                limit,
-            },
-        ) => write!(out, "memory charged={charged} asked={asked} limit={limit}")?,
+        Completion::Stop(StopCause::Memory(overrun)) => write!(
+            out,
+            "memory charged={} asked={} limit={}",
+            overrun.charged, overrun.asked, overrun.limit
+        )?,
     }
     Ok(out)
 }

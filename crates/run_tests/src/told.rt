@@ -1,7 +1,7 @@
 //! Outcomes, values and calls as rows have them.
 
 use anyhow::Error;
-use ivm_text::{Copy, Leaf, Passed, Units};
+use ivm_text::{Copy, Leaf, Overrun, Passed, Units};
 use std::alloc::Global;
 use task_history::Outcome;
 
@@ -26,11 +26,13 @@ pub fn told_of_outcome(alloc: Global, outcome: &Outcome) -> Result<String, Error
             Ok(format!(in alloc; "syntax {:?} {}", refusal.kind, refusal.place)?)
         }
         Outcome::Timeout(ticks) => Ok(format!(in alloc; "timeout {ticks}")?),
-        Outcome::MemoryLimit {
-            charged,
-            asked,
-            limit,
-        } => Ok(format!(in alloc; "memory charged={charged} asked={asked} limit={limit}")?),
+        Outcome::MemoryLimit(
+            Overrun {
+                charged,
+                asked,
+                limit,
+            },
+        ) => { Ok(format!(in alloc; "memory charged={charged} asked={asked} limit={limit}")?) }
         Outcome::Disposed(by) => Ok(format!(in alloc; "disposed by {by:?}")?),
         _ => Ok(String::from_str(alloc, "another outcome")?),
     }

@@ -6,7 +6,7 @@ use anyhow::{Error, bail};
 use host_machine::Host;
 use host_meaning::Move;
 use host_script::read_host;
-use ivm_text::{Copy, Passed};
+use ivm_text::{Copy, Overrun, Passed};
 use std::alloc::Global;
 use task_history::{Act, By, Event, History, Out, Outcome, Settlement, Task, TaskKind};
 use test_tables::{Row, Table, Tally};
@@ -25,7 +25,8 @@ pub fn run(rt: &HostRuntime, tally: &mut Tally, table: &Table) -> Result<(), Err
     for row in table.rows.as_slice() {
         take_turn(rt, tally, &mut host, row)?;
     }
-    run_history(rt, tally, table, &host.into_history())
+    let (_, history) = host.into_parts();
+    run_history(rt, tally, table, &history)
 }
 
 // ---- turns
@@ -82,7 +83,7 @@ fn receive(rt: &HostRuntime, tally: &mut Tally, host: &mut Host, row: &Row) -> R
         bail!("{}: no isolate {isolate}", row.place);
     }
     let reply = Out::Reply { call, outcome };
-    let told = match host.receive(isolate, &reply)? {
+    let told = match host.receive(isolate, reply)? {
         Some(_posting) => "a task",
         None => "no task",
     };
@@ -97,11 +98,11 @@ fn outcome_of(row: &Row) -> Result<Outcome, Error> {
             row: row.field(5)?.parse::<u32>()?,
         }),
         "done" => Ok(Outcome::Done),
-        "out of cells" => Ok(Outcome::MemoryLimit {
+        "out of cells" => Ok(Outcome::MemoryLimit(Overrun {
             charged: 1,
             asked: 2,
             limit: 2,
-        }),
+        })),
         "disposed by Host" => Ok(Outcome::Disposed(By::Host)),
         _ => bail!("{}: no such outcome", row.place),
     }
