@@ -2,7 +2,7 @@
 //!
 //! Contracts see stands, scenes and records as `host_meaning` defines them.
 //! Rely on: the laws that stand on the functions of `laws` and `courses`; none does anything when it is called.
-//! Over `host_meaning`, `host_syntax`, `isolate_meaning` and `task_history`; under `host_machine` and `ivm_cli`.
+//! Over `host_meaning`, `host_syntax`, `isolate_meaning` and `task_history`; under `host_runs`.
 //! Begin with `src/laws.rt` and `src/courses.rt`, then the files of `specs`.
 #![tactic(auto)]
 

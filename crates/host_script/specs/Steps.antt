@@ -1,4 +1,5 @@
 -- How the calls of the code answer, by the meaning of a host script. No caller needs this.
+-- This project's own; docs/HOST.md, "Lines" and "Texts".
 use Rattle.std.specs.Prelude.{◌≡◌, ℕ, ◌+◌, ◌-◌, ◌<◌, ◌≤◌, Bool, List, ◌∷◌, ◌++◌, length, drop, Option, nat_lt, if◌then◌else◌}
 use Rattle.std.specs.List.{join_with_byte}
 use Rattle.std.specs.Option.{option_map}

@@ -2,7 +2,7 @@
 //!
 //! Contracts see a `HostScript` as its declarations and commands, in the order of the lines.
 //! Rely on: the answer is the one that the bytes have by `specs/HostText.antt`; only the want of memory is free.
-//! Over `host_syntax`, `ivm_text` and `indexmap`; under `host_machine`, `ivm_report` and `ivm_cli`.
+//! Over `host_syntax`, `ivm_text` and `indexmap`; under `ivm_cli`.
 //! Begin with `specs/HostText.antt`, then `src/read.rt`.
 #![tactic(auto)]
 

@@ -1,4 +1,9 @@
 //! The program: the words of the command line, standard input and output, and the exit status.
+//!
+//! Contracts see nothing here: `main` hands the words and the streams to the top call.
+//! Rely on: it is safe and returns; what it writes is said by the clauses of `ivm_cli::ivm`.
+//! Over `ivm_cli`, `ivm_io` and `task_history`; under no crate.
+//! Begin with `main`, then `src/call.rt` of `ivm_cli`.
 #![tactic(auto)]
 
 use ivm_cli::{Status, ivm};

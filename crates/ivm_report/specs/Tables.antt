@@ -1,4 +1,5 @@
 -- What is looked up in a record. No caller needs this.
+-- This project's own; docs/FORMATS.md, "The report".
 use Rattle.std.specs.Prelude.{◌≡◌, ℕ, ◌<◌, List, length, map, Option, None, slice_index_or}
 use Rattle.task_history.specs.declared.record.Record.{Record}
 use Rattle.task_history.specs.declared.record.Settlement.{Settlement}
