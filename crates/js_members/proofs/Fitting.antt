@@ -8,7 +8,7 @@ use Rattle.charged_heap.specs.declared.item.Item.{Item}
 use Rattle.charged_heap.specs.declared.item.Item.TheVariants as item
 use Rattle.charged_heap.specs.declared.values.Value.{Value}
 use Rattle.charged_heap.specs.declared.values.Value.TheVariants as value
-use Rattle.js_members.specs.declared.fault.MemberFault.TheVariants.{PastEnd}
+use Rattle.js_ops.specs.declared.error.ScriptError.TheVariants.{PastEnd}
 use Rattle.js_members.specs.declared.target.Target.TheVariants.{Element, End, Refused}
 use Rattle.js_members.specs.Writes.{element_target, item_target, target_of, FitsTarget}
 

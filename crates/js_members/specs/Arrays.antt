@@ -8,9 +8,9 @@ use Rattle.charged_heap.specs.declared.item.Item.TheVariants as item
 use Rattle.charged_heap.specs.declared.values.Value.{Value}
 use Rattle.charged_heap.specs.declared.values.Value.TheVariants as value
 use Rattle.charged_heap.specs.Ends.{Ends}
-use Rattle.js_members.specs.Faults.{fault_thrown}
+use Rattle.js_ops.specs.Outcome.{error_thrown}
 use Rattle.js_members.specs.Writes.{charged, appended}
-use Rattle.js_members.specs.declared.fault.MemberFault.TheVariants.{BadArgument}
+use Rattle.js_ops.specs.declared.error.ScriptError.TheVariants.{BadArgument}
 
 -- ---- the array that is meant
 
@@ -34,7 +34,7 @@ pushed n (v ∷ vs) s = charged ELEMENT_CELLS s (pushed n vs (appended s n v))
 -- the same on the array that is meant
 abbrev pub pushed_at : Option ℕ → List Value → Store → Ends Value
 pushed_at (Some n) values s = pushed n values s
-pushed_at None values s = fault_thrown BadArgument s
+pushed_at None values s = error_thrown BadArgument s
 
 -- what a call of `push` with these arguments gives
 unfoldable pub push_outcome : Value → List Value → Store → Ends Value
@@ -60,7 +60,7 @@ popped n values s = popped_as n values (last_of values) s
 -- the same on the array that is meant
 abbrev pub popped_at : Option ℕ → Store → Ends Value
 popped_at (Some n) s = popped n (elements (item_at s n)) s
-popped_at None s = fault_thrown BadArgument s
+popped_at None s = error_thrown BadArgument s
 
 -- what a call of `pop` gives
 unfoldable pub pop_outcome : Value → Store → Ends Value

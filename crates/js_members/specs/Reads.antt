@@ -13,9 +13,8 @@ use Rattle.charged_heap.specs.declared.item.Item.TheVariants as item
 use Rattle.charged_heap.specs.declared.values.Value.{Value}
 use Rattle.charged_heap.specs.declared.values.Value.TheVariants as value
 use Rattle.charged_heap.specs.Ends.{Ends}
-use Rattle.js_ops.specs.Outcome.{text_made}
-use Rattle.js_members.specs.Faults.{fault_thrown}
-use Rattle.js_members.specs.declared.fault.MemberFault.TheVariants.{NoObject}
+use Rattle.js_ops.specs.Outcome.{text_made, error_thrown}
+use Rattle.js_ops.specs.declared.error.ScriptError.TheVariants.{NoObject}
 use Rattle.js_members.specs.declared.names.MemberName.{MemberName}
 use Rattle.js_members.specs.declared.names.MemberName.TheVariants.{Length, Push, Pop, Name, Message}
 use Rattle.js_members.specs.declared.reading.Reading.{Reading}
@@ -103,7 +102,7 @@ reading_of s _ key = Held value.Undefined
 abbrev pub reading_outcome : Reading → Store → Ends Value
 reading_outcome (Held v) s = (Ok v, s)
 reading_outcome (Made units) s = text_made units s
-reading_outcome (Fault fault) s = fault_thrown fault s
+reading_outcome (Fault fault) s = error_thrown fault s
 
 -- what a read of the key gives
 unfoldable pub read_outcome : Value → List ℕ → Store → Ends Value

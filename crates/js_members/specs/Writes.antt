@@ -13,8 +13,8 @@ use Rattle.charged_heap.specs.declared.item.Item.TheVariants as item
 use Rattle.charged_heap.specs.declared.values.Value.{Value}
 use Rattle.charged_heap.specs.declared.values.Value.TheVariants as value
 use Rattle.charged_heap.specs.Ends.{Ends}
-use Rattle.js_members.specs.Faults.{fault_thrown}
-use Rattle.js_members.specs.declared.fault.MemberFault.TheVariants.{NoObject, PastEnd, NotWritable}
+use Rattle.js_ops.specs.Outcome.{error_thrown}
+use Rattle.js_ops.specs.declared.error.ScriptError.TheVariants.{NoObject, PastEnd, NotWritable}
 use Rattle.js_members.specs.declared.target.Target.{Target}
 use Rattle.js_members.specs.declared.target.Target.TheVariants.{Property, Element, End, Refused}
 
@@ -62,7 +62,7 @@ target_outcome (Property n) key v s =
     charged (price_at (item_at s n) key) s (Ok v, with_item s n (with_property (item_at s n) key v))
 target_outcome (Element n k) key v s = (Ok v, with_item s n (with_place (item_at s n) k v))
 target_outcome (End n) key v s = charged ELEMENT_CELLS s (Ok v, appended s n v)
-target_outcome (Refused fault) key v s = fault_thrown fault s
+target_outcome (Refused fault) key v s = error_thrown fault s
 
 -- what a write of the value to the key gives
 unfoldable pub write_outcome : Value → List ℕ → Value → Store → Ends Value

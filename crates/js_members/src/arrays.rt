@@ -7,9 +7,8 @@ ghost use Rattle.charged_heap.specs.Store.{IsAt, IsArray, elements, item_at};
 ghost use Rattle.charged_heap.specs.Ends.{Meets, IsSoundResult};
 ghost use Rattle.js_members.specs.Arrays.{array_at, array_number, pushed, popped, push_outcome, pop_outcome};
 
-use crate::MemberFault;
-use crate::fault::refuse;
 use charged_heap::{Fail, Heap, Item, Value};
+use js_ops::{ScriptError, refuse};
 use std::alloc::Global;
 
 /// The number of a value that is an array; none of all other values.
@@ -79,7 +78,7 @@ pub fn push(
 {
     match array_at(heap, receiver) {
         Some(n) => push_all(heap, n, arguments),
-        None => refuse(alloc, heap, MemberFault::BadArgument),
+        None => refuse(alloc, heap, ScriptError::BadArgument),
     }
 }
 
@@ -114,6 +113,6 @@ pub fn pop(alloc: Global, heap: &mut Heap, receiver: Value) -> Result<Value, Fai
 {
     match array_at(heap, receiver) {
         Some(n) => Ok(pop_at(heap, n)),
-        None => refuse(alloc, heap, MemberFault::BadArgument),
+        None => refuse(alloc, heap, ScriptError::BadArgument),
     }
 }

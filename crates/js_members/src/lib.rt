@@ -8,7 +8,6 @@
 #![tactic(auto)]
 
 mod arrays;
-mod fault;
 mod members;
 mod names;
 mod reading;
@@ -16,7 +15,6 @@ mod target;
 
 pub use arrays::{pop, push};
 pub use charged_heap::Fail;
-pub use fault::MemberFault;
 pub use members::{read, write};
 pub use names::{MemberName, is_named};
 pub use reading::Reading;

@@ -6,12 +6,12 @@ ghost use Rattle.charged_heap.specs.Ends.{Meets, IsSoundResult};
 ghost use Rattle.js_members.specs.Reads.{reading_outcome, read_outcome, IsSoundReading};
 ghost use Rattle.js_members.specs.Writes.{target_outcome, write_outcome, FitsTarget};
 
-use crate::fault::refuse;
 use crate::reading::reading_of;
 use crate::target::target_of;
 use crate::{Reading, Target};
 use charged_heap::{Fail, Heap, Item, Value, make};
 use ivm_text::Units;
+use js_ops::refuse;
 use std::alloc::Global;
 
 /// Carries a reading out: makes its string, or its error and throws it.

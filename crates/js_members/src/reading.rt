@@ -5,9 +5,10 @@ ghost use Rattle.charged_heap.specs.Closed.{IsSoundValue};
 ghost use Rattle.js_members.specs.Reads.{array_member, array_reading, error_member, error_name, item_reading, or_undefined, reading_of, text_member, text_reading, unit_reading};
 
 use crate::names::member_name;
-use crate::{MemberFault, MemberName};
+use crate::MemberName;
 use charged_heap::{Builtin, Heap, Item, Value, Values};
 use ivm_text::{ErrorKind, NoMemory, Units, index_of};
+use js_ops::ScriptError;
 use std::alloc::Global;
 
 /// What a key reads of a value.
@@ -18,7 +19,7 @@ pub enum Reading {
     /// A string that is to be made.
     Made(Units),
     /// An error that is to be made and thrown.
-    Fault(MemberFault),
+    Fault(ScriptError),
 }
 
 fn or_undefined(value: Option<Value>) -> Reading
@@ -146,7 +147,7 @@ pub(crate) fn reading_of(
     ensures { IfOk result (λ reading. reading ≡ reading_of heap.now base key.now) }
 {
     match base {
-        Value::Undefined | Value::Null => Ok(Reading::Fault(MemberFault::NoObject)),
+        Value::Undefined | Value::Null => Ok(Reading::Fault(ScriptError::NoObject)),
         Value::Item(n) => item_reading(alloc, heap.get(n), key),
         Value::Bool(_) | Value::Num(_) | Value::Builtin(_) => Ok(Reading::Held(Value::Undefined)),
     }

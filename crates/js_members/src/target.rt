@@ -4,9 +4,9 @@ ghost use Rattle.charged_heap.specs.Closed.{IsSoundValue};
 ghost use Rattle.ivm_text.specs.declared.key_order.TheConstants.{INDEX_END};
 ghost use Rattle.js_members.specs.Writes.{element_target, item_target, target_of, FitsTarget};
 
-use crate::MemberFault;
 use charged_heap::{Heap, Item, Value, Values};
 use ivm_text::{Units, index_of};
+use js_ops::ScriptError;
 
 /// Where a write goes.
 #[derive(Debug, Clone, Copy, PartialEq, Eq)]
@@ -18,7 +18,7 @@ pub enum Target {
     /// The end of the array with this number.
     End(u32),
     /// Nowhere; this is thrown.
-    Refused(MemberFault),
+    Refused(ScriptError),
 }
 
 /// Where a write to an index of an array goes.
@@ -26,7 +26,7 @@ fn element_target(n: u32, values: &Values, index: Option<u64>) -> Target
     ensures { result ≡ element_target n values.now index }
 {
     let Some(index) = index else {
-        return Target::Refused(MemberFault::NotWritable);
+        return Target::Refused(ScriptError::NotWritable);
     };
     let length = values.len();
     if index < length as u64 {
@@ -34,7 +34,7 @@ fn element_target(n: u32, values: &Values, index: Option<u64>) -> Target
     } else if index == length as u64 {
         Target::End(n)
     } else {
-        Target::Refused(MemberFault::PastEnd)
+        Target::Refused(ScriptError::PastEnd)
     }
 }
 
@@ -44,7 +44,7 @@ fn item_target(n: u32, item: &Item, key: &Units) -> Target
     match item {
         Item::Plain(_) => Target::Property(n),
         Item::Array(values) => element_target(n, values, index_of(key)),
-        _ => Target::Refused(MemberFault::NotWritable),
+        _ => Target::Refused(ScriptError::NotWritable),
     }
 }
 
@@ -56,10 +56,10 @@ pub(crate) fn target_of(heap: &Heap, base: Value, key: &Units) -> Target
     ensures fits { FitsTarget heap.now result }
 {
     match base {
-        Value::Undefined | Value::Null => Target::Refused(MemberFault::NoObject),
+        Value::Undefined | Value::Null => Target::Refused(ScriptError::NoObject),
         Value::Item(n) => item_target(n, heap.get(n), key),
         Value::Bool(_) | Value::Num(_) | Value::Builtin(_) => Target::Refused(
-            MemberFault::NotWritable,
+            ScriptError::NotWritable,
         ),
     }
 }

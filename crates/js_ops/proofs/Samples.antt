@@ -11,7 +11,7 @@ use Rattle.charged_heap.specs.declared.values.Value.TheVariants as value
 use Rattle.js_ops.specs.Numbers.{calculated}
 use Rattle.js_ops.specs.Values.{same, truthy}
 use Rattle.js_ops.specs.Outcome.{binary_outcome, thrown}
-use Rattle.js_ops.specs.declared.answer.OperandFault.TheVariants.{OutOfRange, NotWhole, DivisionByZero}
+use Rattle.js_ops.specs.declared.error.ScriptError.TheVariants.{OutOfRange, NotWhole, DivisionByZero}
 use Rattle.js_ops.specs.declared.operators.Arithmetic.TheVariants.{Add, Sub, Div, Rem}
 use Rattle.js_ops.specs.declared.operators.BinaryOperator.TheVariants.{Calculate}
 

@@ -12,8 +12,8 @@ use Rattle.js_ops.specs.Numbers.{calculated, in_range}
 use Rattle.js_ops.specs.Values.{string_at, primitive_text, truthy, same, type_of, type_text}
 use Rattle.js_ops.specs.declared.answer.Answer.{Answer}
 use Rattle.js_ops.specs.declared.answer.Answer.TheVariants.{Truth, Number, Text, Fault}
-use Rattle.js_ops.specs.declared.answer.OperandFault.{OperandFault}
-use Rattle.js_ops.specs.declared.answer.OperandFault.TheVariants.{WrongKind}
+use Rattle.js_ops.specs.declared.error.ScriptError.{ScriptError}
+use Rattle.js_ops.specs.declared.error.ScriptError.TheVariants.{WrongKind}
 use Rattle.js_ops.specs.declared.operators.Arithmetic.{Arithmetic}
 use Rattle.js_ops.specs.declared.operators.Arithmetic.TheVariants as arithmetic
 use Rattle.js_ops.specs.declared.operators.Comparison.{Comparison}
@@ -55,7 +55,7 @@ unary_of _ = None
 -- ---- arithmetic
 
 -- a number, or why there is none
-abbrev pub of_number : Result ℤ OperandFault → Answer
+abbrev pub of_number : Result ℤ ScriptError → Answer
 of_number (Ok n) = Number n
 of_number (Err fault) = Fault fault
 

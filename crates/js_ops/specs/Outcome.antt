@@ -1,8 +1,7 @@
 -- What an operation over a heap gives, and the store after it.
 -- This project's own; docs/PRICES.md, "When the heap is full", and docs/SCRIPTS.md, "Operators". An error's kind: ECMA-262, Throw an Exception.
-use Rattle.std.specs.Prelude.{ℕ, List, codes, Ok, Err}
+use Rattle.std.specs.Prelude.{ℕ, List, Ok, Err}
 use Rattle.ivm_text.specs.declared.copies.ErrorKind.{ErrorKind}
-use Rattle.ivm_text.specs.declared.copies.ErrorKind.TheVariants.{TypeError, RangeError}
 use Rattle.charged_heap.specs.Ends.{Ends, and_then, item_made}
 use Rattle.charged_heap.specs.Store.{Store}
 use Rattle.charged_heap.specs.declared.fault.Fail.TheVariants.{Throw}
@@ -10,11 +9,11 @@ use Rattle.charged_heap.specs.declared.item.Item.{Item}
 use Rattle.charged_heap.specs.declared.item.Item.TheVariants as item
 use Rattle.charged_heap.specs.declared.values.Value.{Value}
 use Rattle.charged_heap.specs.declared.values.Value.TheVariants as value
+use Rattle.js_ops.specs.Errors.{error_kind, error_text, name_error_text}
 use Rattle.js_ops.specs.Operators.{binary_answer, unary_answer}
 use Rattle.js_ops.specs.declared.answer.Answer.{Answer}
 use Rattle.js_ops.specs.declared.answer.Answer.TheVariants.{Truth, Number, Text, Fault}
-use Rattle.js_ops.specs.declared.answer.OperandFault.{OperandFault}
-use Rattle.js_ops.specs.declared.answer.OperandFault.TheVariants.{WrongKind, OutOfRange, NotWhole, DivisionByZero}
+use Rattle.js_ops.specs.declared.error.ScriptError.{ScriptError}
 use Rattle.js_ops.specs.declared.operators.BinaryOperator.{BinaryOperator}
 use Rattle.js_ops.specs.declared.operators.UnaryOperator.{UnaryOperator}
 
@@ -34,19 +33,15 @@ thrown sort message s =
     and_then (item_made (item.Text message) s) (λ text with_text.
     and_then (item_made (item.Error sort text) with_text) (λ error after. (Err (Throw (value.Item error)), after)))
 
--- ---- errors of operators
+-- ---- errors of operators, members and names
 
-abbrev pub fault_kind : OperandFault → ErrorKind
-fault_kind WrongKind = TypeError
-fault_kind OutOfRange = RangeError
-fault_kind NotWhole = RangeError
-fault_kind DivisionByZero = RangeError
+-- a new error of that kind, with that text, thrown
+abbrev pub error_thrown : ScriptError → Store → Ends Value
+error_thrown error s = thrown (error_kind error) (error_text error) s
 
-abbrev pub fault_text : OperandFault → List ℕ
-fault_text WrongKind = codes "wrong kind of operand"
-fault_text OutOfRange = codes "number out of range"
-fault_text NotWhole = codes "not a whole quotient"
-fault_text DivisionByZero = codes "division by zero"
+-- so is the error of a name, whose text begins with the name
+abbrev pub name_error_thrown : ScriptError → List ℕ → Store → Ends Value
+name_error_thrown error name s = thrown (error_kind error) (name_error_text error name) s
 
 -- ---- operators
 
@@ -55,7 +50,7 @@ abbrev pub outcome_of : Answer → Store → Ends Value
 outcome_of (Truth b) s = (Ok (value.Bool b), s)
 outcome_of (Number n) s = (Ok (value.Num n), s)
 outcome_of (Text units) s = text_made units s
-outcome_of (Fault fault) s = thrown (fault_kind fault) (fault_text fault) s
+outcome_of (Fault error) s = error_thrown error s
 
 -- what an operator of two operands gives
 unfoldable pub binary_outcome : BinaryOperator → Value → Value → Store → Ends Value

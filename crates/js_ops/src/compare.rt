@@ -4,7 +4,7 @@ ghost use Rattle.charged_heap.specs.Closed.{IsSoundValue};
 ghost use Rattle.js_ops.specs.Operators.{compares_numbers, compares_texts, comparison_of};
 
 use crate::values::string_at;
-use crate::{Answer, Comparison, OperandFault};
+use crate::{Answer, Comparison, ScriptError};
 use charged_heap::{Heap, Value};
 use ivm_text::Units;
 
@@ -41,6 +41,6 @@ pub(crate) fn comparison_of(heap: &Heap, operator: Comparison, left: Value, righ
     }
     match (string_at(heap, left), string_at(heap, right)) {
         (Some(left), Some(right)) => Answer::Truth(compares_texts(operator, left, right)),
-        _ => Answer::Fault(OperandFault::WrongKind),
+        _ => Answer::Fault(ScriptError::WrongKind),
     }
 }

@@ -7,7 +7,7 @@ use crate::calculate::{calculated, in_range, of_number};
 use crate::compare::comparison_of;
 use crate::join::joined_values;
 use crate::values::{same, truthy, type_of, type_text};
-use crate::{Answer, Arithmetic, BinaryOperator, OperandFault, UnaryOperator};
+use crate::{Answer, Arithmetic, BinaryOperator, ScriptError, UnaryOperator};
 use charged_heap::{Heap, Value};
 use ivm_text::{NoMemory, Units};
 use std::alloc::Global;
@@ -29,7 +29,7 @@ fn calculation(
     }
     match operator {
         Arithmetic::Add => joined_values(alloc, heap, left, right),
-        _ => Ok(Answer::Fault(OperandFault::WrongKind)),
+        _ => Ok(Answer::Fault(ScriptError::WrongKind)),
     }
 }
 
@@ -62,7 +62,7 @@ fn sign_of(operator: UnaryOperator, number: i64) -> Answer
         UnaryOperator::Plus => of_number(in_range(number)),
         UnaryOperator::Raise => of_number(calculated(Arithmetic::Add, number, 1)),
         UnaryOperator::Lower => of_number(calculated(Arithmetic::Sub, number, 1)),
-        UnaryOperator::Not | UnaryOperator::TypeOf => Answer::Fault(OperandFault::WrongKind),
+        UnaryOperator::Not | UnaryOperator::TypeOf => Answer::Fault(ScriptError::WrongKind),
     }
 }
 
@@ -72,7 +72,7 @@ fn signed(operator: UnaryOperator, operand: Value) -> Answer
 {
     match operand {
         Value::Num(number) => sign_of(operator, number),
-        _ => Answer::Fault(OperandFault::WrongKind),
+        _ => Answer::Fault(ScriptError::WrongKind),
     }
 }
 

@@ -5,7 +5,7 @@ ghost use Rattle.js_ops.specs.Values.{string_at, primitive_text};
 ghost use Rattle.js_ops.specs.Operators.{joined_values};
 
 use crate::values::string_at;
-use crate::{Answer, OperandFault};
+use crate::{Answer, ScriptError};
 use charged_heap::{Heap, Value};
 use ivm_text::{NoMemory, Units};
 use std::alloc::Global;
@@ -37,14 +37,14 @@ pub(crate) fn joined_values(
     ensures { IfOk result (λ answer. answer ≡ joined_values left right (string_at heap.now left) (string_at heap.now right)) }
 {
     match (string_at(heap, left), string_at(heap, right)) {
-        (None, None) => Ok(Answer::Fault(OperandFault::WrongKind)),
+        (None, None) => Ok(Answer::Fault(ScriptError::WrongKind)),
         (Some(first), None) => match primitive_text(alloc, right)? {
             Some(second) => Ok(Answer::Text(first.join(alloc, &second)?)),
-            None => Ok(Answer::Fault(OperandFault::WrongKind)),
+            None => Ok(Answer::Fault(ScriptError::WrongKind)),
         },
         (None, Some(second)) => match primitive_text(alloc, left)? {
             Some(first) => Ok(Answer::Text(first.join(alloc, second)?)),
-            None => Ok(Answer::Fault(OperandFault::WrongKind)),
+            None => Ok(Answer::Fault(ScriptError::WrongKind)),
         },
         (Some(first), Some(second)) => Ok(Answer::Text(first.join(alloc, second)?)),
     }

@@ -11,14 +11,16 @@ mod answer;
 mod calculate;
 mod compare;
 mod decide;
+mod error;
 mod join;
 mod making;
 mod operations;
 mod operators;
 mod values;
 
-pub use answer::{Answer, OperandFault};
+pub use answer::Answer;
 pub use charged_heap::Fail;
+pub use error::{ScriptError, refuse, refuse_name};
 pub use making::throw;
 pub use operations::{binary, unary};
 pub use operators::{Arithmetic, BinaryOperator, Comparison, UnaryOperator};

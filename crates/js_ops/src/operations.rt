@@ -6,9 +6,8 @@ ghost use Rattle.charged_heap.specs.Ends.{Meets, IsSoundResult};
 ghost use Rattle.js_ops.specs.Outcome.{outcome_of, binary_outcome, unary_outcome};
 
 use crate::decide::{binary_answer, unary_answer};
-use crate::{Answer, BinaryOperator, UnaryOperator, throw};
+use crate::{Answer, BinaryOperator, UnaryOperator, refuse};
 use charged_heap::{Fail, Heap, Item, Value, make};
-use ivm_text::Units;
 use std::alloc::Global;
 
 /// Carries an answer out: makes its string, or its error and throws it.
@@ -23,10 +22,7 @@ fn carry_out(alloc: Global, heap: &mut Heap, answer: Answer) -> Result<Value, Fa
         Answer::Truth(truth) => Ok(Value::Bool(truth)),
         Answer::Number(number) => Ok(Value::Num(number)),
         Answer::Text(units) => Ok(Value::Item(make(heap, Item::Text(units))?)),
-        Answer::Fault(fault) => {
-            let message = Units::from_latin1(alloc, fault.message())?;
-            throw(heap, fault.kind(), message)
-        }
+        Answer::Fault(error) => refuse(alloc, heap, error),
     }
 }
 

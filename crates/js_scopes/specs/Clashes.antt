@@ -6,8 +6,8 @@ use Rattle.charged_heap.specs.declared.item.Item.{Item}
 use Rattle.charged_heap.specs.declared.values.Value.{Value}
 use Rattle.charged_heap.specs.Ends.{Ends}
 use Rattle.js_scopes.specs.Bindings.{bindings_of, functions_of, place_of}
-use Rattle.js_scopes.specs.Faults.{fault_thrown}
-use Rattle.js_scopes.specs.declared.fault.NameFault.TheVariants.{AlreadyDeclared}
+use Rattle.js_ops.specs.Outcome.{name_error_thrown}
+use Rattle.js_ops.specs.declared.error.ScriptError.TheVariants.{AlreadyDeclared}
 
 -- the record has a binding of the name
 abbrev pub is_bound : Item → List ℕ → Bool
@@ -24,4 +24,4 @@ is_clash s n name function = clashes (item_at s n) name function
 
 -- what a clash gives
 abbrev pub clash_outcome : List ℕ → Store → Ends Value
-clash_outcome name s = fault_thrown AlreadyDeclared name s
+clash_outcome name s = name_error_thrown AlreadyDeclared name s

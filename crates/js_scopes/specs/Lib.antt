@@ -1,4 +1,3 @@
-pub mod Faults
 pub mod Bindings
 pub mod Lookup
 pub mod Names

@@ -7,11 +7,10 @@ ghost use Rattle.charged_heap.specs.Ends.{Meets, IsSoundResult};
 ghost use Rattle.js_scopes.specs.Bindings.{functions_of};
 ghost use Rattle.js_scopes.specs.Clashes.{is_clash, clash_outcome};
 
-use crate::NameFault;
 use crate::bindings::place_in;
-use crate::fault::refuse;
 use charged_heap::{Fail, Heap, Item, Value};
 use ivm_text::Units;
+use js_ops::{ScriptError, refuse_name};
 use std::alloc::Global;
 
 /// Whether an item notes a name as that of a function; items that are no scopes note none.
@@ -49,5 +48,5 @@ pub fn refuse_clash(alloc: Global, heap: &mut Heap, name: &Units) -> Result<Valu
     ensures closed { IsClosed heap.old → IsClosed heap.new }
     ensures sound { IsSoundResult heap.new result }
 {
-    refuse(alloc, heap, NameFault::AlreadyDeclared, name)
+    refuse_name(alloc, heap, ScriptError::AlreadyDeclared, name)
 }

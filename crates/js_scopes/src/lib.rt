@@ -9,7 +9,6 @@
 
 mod bindings;
 mod clashes;
-mod fault;
 mod form_scopes;
 mod list_functions;
 mod list_names;
@@ -22,7 +21,6 @@ mod scripts;
 pub use bindings::add_binding;
 pub use charged_heap::{Bindings, Fail};
 pub use clashes::{is_clash, refuse_clash};
-pub use fault::NameFault;
 pub use form_scopes::{block_scope, call_scope, catch_scope, name_scope};
 pub use lookup::{BindingPlace, Lookup, look_up};
 pub use names::{assign_name, read_name, type_of_name};

@@ -10,11 +10,10 @@ ghost use Rattle.js_scopes.specs.Bindings.{binding_at};
 ghost use Rattle.js_scopes.specs.Lookup.{lookup, IsBindingAt, IsFound};
 ghost use Rattle.js_scopes.specs.Names.{or_dead_zone, value_found, name_outcome, typeof_outcome, assigned_binding, assigned_found, assign_outcome};
 
-use crate::fault::refuse;
-use crate::{BindingPlace, Lookup, NameFault, look_up};
+use crate::{BindingPlace, Lookup, look_up};
 use charged_heap::{Binding, Fail, Heap, Item, Value, make};
 use ivm_text::Units;
-use js_ops::{UnaryOperator, unary};
+use js_ops::{ScriptError, UnaryOperator, refuse_name, unary};
 use std::alloc::Global;
 
 /// The binding at a place.
@@ -28,30 +27,30 @@ fn binding_at(heap: &Heap, at: BindingPlace) -> &Binding
     }
 }
 
-fn or_dead_zone(value: Option<Value>) -> Result<Value, NameFault>
+fn or_dead_zone(value: Option<Value>) -> Result<Value, ScriptError>
     ensures { result ≡ or_dead_zone value }
 {
     match value {
         Some(value) => Ok(value),
-        None => Err(NameFault::NotInitialised),
+        None => Err(ScriptError::NotInitialised),
     }
 }
 
 /// The value that stands where a name was found, or why there is none.
-fn value_found(heap: &Heap, global: u32, name: &Units, found: Lookup) -> Result<Value, NameFault>
+fn value_found(heap: &Heap, global: u32, name: &Units, found: Lookup) -> Result<Value, ScriptError>
     requires { IsFound heap.now global name.now found }
     ensures { result ≡ value_found heap.now found }
 {
     match found {
         Lookup::Bound(at) => or_dead_zone(binding_at(heap, at).value),
         Lookup::Property(value) | Lookup::Builtin(value) => Ok(value),
-        Lookup::Nowhere => Err(NameFault::NotDefined),
+        Lookup::Nowhere => Err(ScriptError::NotDefined),
     }
 }
 
 /// The value of a name, or why it has none.
 #[tactic(auto, using(crate::proofs::Sound::value_sound))]
-fn value_of(heap: &Heap, name: &Units, scope: u32, global: u32) -> Result<Value, NameFault>
+fn value_of(heap: &Heap, name: &Units, scope: u32, global: u32) -> Result<Value, ScriptError>
     requires closed { IsClosed heap.now }
     requires scope { IsAt IsScope heap.now scope }
     requires global { IsAt IsPlain heap.now global }
@@ -93,7 +92,7 @@ pub fn read_name(
 {
     match value_of(heap, name, scope, global) {
         Ok(value) => Ok(value),
-        Err(fault) => refuse(alloc, heap, fault, name),
+        Err(fault) => refuse_name(alloc, heap, fault, name),
     }
 }
 
@@ -135,8 +134,8 @@ pub fn type_of_name(
 {
     match value_of(heap, name, scope, global) {
         Ok(value) => unary(alloc, heap, UnaryOperator::TypeOf, value),
-        Err(NameFault::NotDefined) => make_undefined(alloc, heap),
-        Err(fault) => refuse(alloc, heap, fault, name),
+        Err(ScriptError::NotDefined) => make_undefined(alloc, heap),
+        Err(fault) => refuse_name(alloc, heap, fault, name),
     }
 }
 
@@ -161,10 +160,10 @@ fn assign_bound(
 {
     let binding = binding_at(heap, at);
     if binding.value.is_none() {
-        return refuse(alloc, heap, NameFault::NotInitialised, name);
+        return refuse_name(alloc, heap, ScriptError::NotInitialised, name);
     }
     if binding.constant {
-        return refuse(alloc, heap, NameFault::Constant, name);
+        return refuse_name(alloc, heap, ScriptError::Constant, name);
     }
     heap.put(at.scope, at.place, value);
     Ok(value)
@@ -208,8 +207,8 @@ fn assign_found(
     match found {
         Lookup::Bound(at) => assign_bound(alloc, heap, at, name, value),
         Lookup::Property(_) => assign_property(heap, global, name, value),
-        Lookup::Builtin(_) => refuse(alloc, heap, NameFault::Constant, name),
-        Lookup::Nowhere => refuse(alloc, heap, NameFault::NotDefined, name),
+        Lookup::Builtin(_) => refuse_name(alloc, heap, ScriptError::Constant, name),
+        Lookup::Nowhere => refuse_name(alloc, heap, ScriptError::NotDefined, name),
     }
 }
 
