@@ -4,8 +4,8 @@ ghost use Rattle.ivm_text.specs.declared.key_order.TheConstants.{INDEX_END};
 ghost use Rattle.charged_heap.specs.Closed.{IsSoundValue};
 ghost use Rattle.js_members.specs.Reads.{array_member, array_reading, error_member, error_name, item_reading, or_undefined, reading_of, text_member, text_reading, unit_reading};
 
-use crate::names::member_name;
 use crate::MemberName;
+use crate::names::member_name;
 use charged_heap::{Builtin, Heap, Item, Value, Values};
 use ivm_text::{ErrorKind, NoMemory, Units, index_of};
 use js_ops::ScriptError;
