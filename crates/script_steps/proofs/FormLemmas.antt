@@ -1,12 +1,12 @@
 -- Forms by numbers: of a script that is there, and of none.
-use Rattle.std.proofs.Common.{◌≡◌, ℕ, zero, suc, ◌<◌, ◌≤◌, Bool, true, false, List, [], ◌∷◌, Option, Some, None, length, refl, sym, ap, arith, if◌then◌else◌}
-use Rattle.std.specs.Prelude.{slice_get, slice_index_or, nat_lt}
+use Rattle.std.proofs.Common.{◌≡◌, ℕ, zero, suc, ◌<◌, ◌≤◌, true, false, List, [], Some, None, length, refl, sym, arith}
+use Rattle.std.specs.Prelude.{slice_get, nat_lt}
 use Rattle.std.proofs.lemmas.Option.{get_or_from_slice_get, unwrap_or-slice_get}
 use Rattle.std.specs.Option.{unwrap_or}
 use Rattle.js_syntax.specs.declared.node.Node.{Node}
 use Rattle.js_syntax.specs.Tree.{Trees, nothing, tree}
-use Rattle.js_trees.specs.Tree.{Tree, tree_of, absent, kid, kid_count}
-use Rattle.script_meaning.specs.Places.{ScriptList, script_at, form_in, form_at}
+use Rattle.js_trees.specs.Tree.{tree_of, absent, kid, kid_count}
+use Rattle.script_meaning.specs.Places.{ScriptList, script_at, form_in}
 
 -- a script that isn't there has no nodes
 pub no_script : (scripts : ScriptList) (k : ℕ) → slice_get scripts k ≡ None → script_at scripts k ≡ []

@@ -1,8 +1,8 @@
 -- What is sound stays so in a store that has grown.
-use Rattle.std.proofs.Common.{◌≡◌, ℕ, ◌<◌, List, length, Option, Some, None, Result, Ok, Err, refl}
+use Rattle.std.proofs.Common.{List, Option, Some, None, Result, Ok, Err}
 use Rattle.std.specs.Prelude.{IfSome, slice_index_or}
 use Rattle.std.specs.List.{All}
-use Rattle.charged_heap.specs.Store.{Store, IsAt}
+use Rattle.charged_heap.specs.Store.{Store}
 use Rattle.charged_heap.specs.Growth.{Grows}
 use Rattle.charged_heap.specs.Closed.{IsSoundValue}
 use Rattle.charged_heap.specs.declared.values.Value.{Value}

@@ -1,9 +1,9 @@
 -- A list of statements, and the names of a declaration, from a place on.
 use Rattle.std.specs.Prelude.{drop, slice_get, slice_index_or}
 use Rattle.std.proofs.lemmas.Option.{slice_get-get_or, get_or_from_slice_get}
-use Rattle.std.proofs.Common.{◌≡◌, ◌∙◌, ℕ, zero, suc, ◌<◌, ◌≤◌, List, [], ◌∷◌, Option, Some, None, length, refl, sym, ap, arith}
+use Rattle.std.proofs.Common.{◌≡◌, ◌∙◌, ℕ, zero, suc, ◌<◌, ◌≤◌, List, [], ◌∷◌, Option, Some, length, refl, sym, arith}
 use Rattle.charged_heap.specs.declared.values.Value.{Value}
-use Rattle.js_syntax.specs.Tree.{Head, Trees, nothing, tree}
+use Rattle.js_syntax.specs.Tree.{Trees, nothing, tree}
 use Rattle.js_trees.specs.Tree.{Tree, kid, kid_count, kids_from}
 use Rattle.js_trees.proofs.PartLemmas.{kids_from-at, kids_from-past}
 use Rattle.charged_heap.specs.Store.{Store}

@@ -1,10 +1,8 @@
 -- Ends that a frame doesn't wait for: they pass it unchanged.
-use Rattle.std.proofs.Common.{◌≡◌, ℕ, List, Option, Result, Ok, Err, refl}
-use Rattle.charged_heap.specs.declared.values.Value.{Value}
+use Rattle.std.proofs.Common.{◌≡◌, Ok, Err, refl}
 use Rattle.script_meaning.specs.Outcome.{State, Inside}
 use Rattle.script_meaning.specs.Places.{ScriptList}
 use Rattle.script_meaning.specs.declared.completion.Abrupt.{Abrupt}
-use Rattle.script_meaning.specs.declared.completion.Ended.{Ended}
 use Rattle.script_meaning.specs.declared.completion.Ended.TheVariants as ended
 use Rattle.script_meaning.specs.declared.site.Place.{Place}
 use Rattle.script_steps.specs.After.{after}

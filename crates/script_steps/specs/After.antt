@@ -1,8 +1,7 @@
 -- What is left of a form's rule where a node inside it has ended, and what a step comes to.
 -- This project's own: each case is the rest of one rule of `script_meaning`, behind the point where it waits.
-use Rattle.std.specs.Prelude.{◌≡◌, ◌≢◌, ℕ, suc, List, [], ◌∷◌, ◌++◌, slice_index_or, drop, Option, Some, None, Result, Ok, Err, if◌then◌else◌}
+use Rattle.std.specs.Prelude.{◌≡◌, ◌≢◌, ℕ, suc, [], ◌∷◌, ◌++◌, slice_index_or, drop, Err, if◌then◌else◌}
 use Rattle.charged_heap.specs.Store.{Store}
-use Rattle.charged_heap.specs.declared.values.Value.{Value}
 use Rattle.charged_heap.specs.declared.values.Value.TheVariants as value
 use Rattle.js_ops.specs.Outcome.{binary_outcome, unary_outcome}
 use Rattle.js_ops.specs.Values.{truthy}
@@ -10,7 +9,7 @@ use Rattle.js_members.specs.Arrays.{pushed}
 use Rattle.js_members.specs.Reads.{read_outcome}
 use Rattle.js_members.specs.Writes.{write_outcome}
 use Rattle.js_scopes.specs.Scopes.{initialised}
-use Rattle.js_trees.specs.Tree.{Tree, kid, kids_from}
+use Rattle.js_trees.specs.Tree.{kids_from}
 use Rattle.script_meaning.specs.Outcome.{State, Out, Inside, gives, of_heap, with_value, with_end, with_place, with_callee}
 use Rattle.script_meaning.specs.Ticks.{TakesTicks}
 use Rattle.script_meaning.specs.Places.{ScriptList, form_at, name_at, key_of, place_read, place_written, place_type}
@@ -26,7 +25,6 @@ use Rattle.script_meaning.specs.declared.site.Role.TheVariants as role
 use Rattle.script_meaning.specs.declared.site.Site.{Site}
 use Rattle.script_steps.specs.declared.frame.Frame.{Frame}
 use Rattle.script_steps.specs.declared.frame.Frame.TheVariants as frame
-use Rattle.script_steps.specs.declared.frame.Inner.{Inner}
 use Rattle.script_steps.specs.declared.frame.Step.{Step}
 use Rattle.script_steps.specs.declared.frame.Step.TheVariants.{Ended, Into, Builtin}
 use Rattle.script_steps.specs.Loops.{loop_of}

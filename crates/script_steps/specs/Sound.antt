@@ -1,6 +1,6 @@
 -- What an end, a frame and a step may name of a store: only what is there, of the kind that its place asks for.
 -- This project's own; docs/PRICES.md, "Cells".
-use Rattle.std.specs.Prelude.{ℕ, List, Option, Result, Ok, Err, IfSome}
+use Rattle.std.specs.Prelude.{List, Result, Ok, Err, IfSome}
 use Rattle.std.specs.List.{All}
 use Rattle.charged_heap.specs.Store.{Store, IsAt, IsArray, IsPlain, IsScope}
 use Rattle.charged_heap.specs.Closed.{IsSoundValue}
