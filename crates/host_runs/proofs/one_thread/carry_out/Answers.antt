@@ -52,8 +52,8 @@ perform-requires-clause-fits c =
     (post_index c.args.script c.commands.host c.commands.cells.items c.requires c.commands.invariant c.step.new.self c.in_ok-step.field-0 c.in-Post.isolate c.in-Post.task c.in_ok-step.ensures.ok c.in-Post.is)
     c.index_mut.ensures.value)
 
-pub commands-preserved-in_ok-perform-in-Post : goal.commands-preserved-in_ok-perform-in-Post
-commands-preserved-in_ok-perform-in-Post c =
+pub commands-preserved-in-Continue-branch-5 : goal.commands-preserved-in-Continue-branch-5
+commands-preserved-in-Continue-branch-5 c =
     after_post c.args.script c.commands.host c.commands.cells.items c.commands.invariant c.step.new.self c.perform.new.host c.in_ok-step.field-0 c.in-Post.isolate c.in-Post.task c.index_mut.result.now c.perform.new.cell
     c.in_ok-step.ensures.ok c.in-Post.is
     (cell_there c.commands.cells.items c.in-Post.isolate c.index_mut.result.now
@@ -61,8 +61,8 @@ commands-preserved-in_ok-perform-in-Post c =
     c.index_mut.ensures.value)
     c.in_ok-perform-in-Post.ensures.cell c.in_ok-perform-in-Post.ensures.host
 
-pub commands-smaller-in_ok-perform-in-Post : goal.commands-smaller-in_ok-perform-in-Post
-commands-smaller-in_ok-perform-in-Post c =
+pub commands-smaller-in-Continue-branch-5 : goal.commands-smaller-in-Continue-branch-5
+commands-smaller-in-Continue-branch-5 c =
     fewer_commands c.args.script c.commands.host c.commands.cells.items c.requires c.commands.invariant c.step.new.self c.perform.new.host c.in_ok-step.field-0 c.in-Post.isolate
     (outs_at c.perform.new.cell.journal (length c.index_mut.result.now.journal)) c.in_ok-step.ensures.ok (posts_on c.in_ok-step.field-0 c.in-Post.isolate c.in-Post.task c.in-Post.is) c.in_ok-perform-in-Post.ensures.host
 
@@ -99,10 +99,10 @@ commands-smaller c =
 
 pub returns-clause-script : goal.returns-clause-script
 returns-clause-script c =
-    ends_with_script c.args.script c.commands.host c.commands.cells.items c.requires c.commands.invariant c.step.new.self c.in_ok-step.field-0 c.into_parts.result.0
-    c.in_ok-step.ensures.ok c.in-Blocked.is c.into_parts.ensures.script
+    ends_with_script c.args.script c.commands.host c.commands.cells.items c.requires c.commands.invariant c.step.new.self c.in_ok-step.field-0 c.into_parts-script.result.0
+    c.in_ok-step.ensures.ok c.in-Blocked.is c.into_parts-script.ensures.script
 
 pub returns-clause-lawful : goal.returns-clause-lawful
 returns-clause-lawful c =
-    ends_lawful c.args.script c.commands.host c.commands.cells.items c.commands.invariant c.requires c.step.new.self c.in_ok-step.field-0 c.into_parts.result.1 c.in_ok-isolates.isolates
-    c.in_ok-step.ensures.ok c.in-Blocked.is c.into_parts.ensures.history c.in_ok-isolates.ensures
+    ends_lawful c.args.script c.commands.host c.commands.cells.items c.commands.invariant c.requires c.step.new.self c.in_ok-step.field-0 c.into_parts-script.result.1 c.in_ok-isolates.isolates
+    c.in_ok-step.ensures.ok c.in-Blocked.is c.into_parts-script.ensures.history c.in_ok-isolates.ensures
