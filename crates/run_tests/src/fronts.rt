@@ -16,13 +16,15 @@ pub fn is_common(row: &Row) -> Result<bool, Error> {
 
 /// What the last row above this place says of a word, or nothing.
 pub fn common<'a>(table: &'a Table, place: usize, word: &str) -> Result<&'a str, Error> {
-    let mut said = "∅";
-    for row in table.rows.as_slice().iter().take(place) {
+    for passed in 0..place {
+        let Some(row) = table.rows.get(place - 1 - passed) else {
+            continue;
+        };
         if row.field(0)? == word {
-            said = row.field(1)?;
+            return row.field(1);
         }
     }
-    Ok(said)
+    Ok("∅")
 }
 
 /// The host script of a row: its field, between what the rows above say stands before and behind it.
