@@ -138,14 +138,14 @@ beside_at script scene i worker holds at = subst (λ w. IsBeside i (limit_at scr
 
 -- ---- a receipt
 
-receipt_there : (stand : Stand) (i j limit : ℕ) (out : Out) (worker : Worker) → j ≢ i → IsBeside j limit stand.history worker → IsBeside j limit (received stand i out).history worker
+pub receipt_there : (stand : Stand) (i j limit : ℕ) (out : Out) (worker : Worker) → j ≢ i → IsBeside j limit stand.history worker → IsBeside j limit (received stand i out).history worker
 receipt_there stand i j limit out worker other beside =
     let heard = beside_quiet j limit stand.history (Recv i out) worker refl (other_if j i (out ∷ []) [] other) (λ e. absurd (other (sym e))) beside in
     received_cases stand i out (λ s. IsBeside j limit s.history worker) (λ _. heard)
     (λ n outcome _ _. subst (λ h. IsBeside j limit h worker) (append_assoc stand.history (Recv i out ∷ []) (Settle n (how.Entry i (replies_of i stand.history)) ∷ []))
     (beside_quiet j limit (stand.history ++ Recv i out ∷ []) (Settle n (how.Entry i (replies_of i stand.history))) worker refl refl tt heard))
 
-receipt_here : (stand : Stand) (i limit : ℕ) (out : Out) (later : List Out) (worker : Worker) → worker.sent ≡ out ∷ later → IsBeside i limit stand.history worker
+pub receipt_here : (stand : Stand) (i limit : ℕ) (out : Out) (later : List Out) (worker : Worker) → worker.sent ≡ out ∷ later → IsBeside i limit stand.history worker
     → IsBeside i limit (received stand i out).history (record worker { sent = later })
 receipt_here stand i limit out later worker first beside =
     let new : Worker = record worker { sent = later } in

@@ -23,6 +23,7 @@ use Rattle.isolate_meaning.proofs.Ends.{by_host_task, told_by_journal}
 use Rattle.host_meaning.specs.Course.{Worker, idle}
 use Rattle.host_meaning.specs.Lawful.{IsCaused, IsCausedBy}
 use Rattle.host_laws.specs.Courses.{IsBeside}
+pub use Rattle.host_laws.specs.Stays.{with_entry}
 use Rattle.host_laws.proofs.Lists.{none_there, by_quiet, posts_post_here, receives_more, receive_here, is_asked_more, still_asked}
 use Rattle.host_laws.proofs.Causes.{caused_push, caused_grown}
 
@@ -126,10 +127,6 @@ beside_receive i limit history out later worker first beside =
     }
 
 -- ---- entries
-
--- an isolate that has one more entry
-abbrev pub with_entry : Worker → Isolate → Entry → List Task → Worker
-with_entry worker isolate entry later = record { isolate = isolate; journal = worker.journal ++ entry ∷ []; waiting = later; sent = worker.sent ++ entry.outs }
 
 beside_entry : (i limit : ℕ) (history : List Event) (worker : Worker) (isolate : Isolate) (entry : Entry) (later : List Task) → Stands entry.task worker.isolate isolate entry
     → worker.waiting ≡ listed entry.task ++ later → (isolate.state ≡ ended Host → is_asked i history ≡ true)

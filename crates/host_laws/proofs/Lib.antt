@@ -14,6 +14,8 @@ pub mod Targets
 pub mod Workers
 pub mod Sent
 pub mod AnyOrder
+pub mod Finished
+pub mod Stays
 pub mod Rest
 pub mod OneThread
 pub mod Driven

@@ -1,33 +1,34 @@
 -- A course that has come to rest: its record is lawful. And a task that waits fits, at any time.
-use Rattle.std.proofs.Common.{◌≡◌, ℕ, suc, zero, ◌<◌, List, [], ◌∷◌, ◌++◌, length, map, true, Some, refl, subst, sym, ap, ◌∙◌, inl, inr, append-nil, slice_get, slice_index_or}
+use Rattle.std.proofs.Common.{◌≡◌, ℕ, suc, zero, ◌<◌, ◌≤◌, ◌==◌, ◌&&◌, ◌||◌, not, nat_le, Bool, false, Option, None, arith, List, [], ◌∷◌, ◌++◌, length, map, true, Some, refl, subst, sym, ap, ◌∙◌, inl, inr, append-nil, slice_get, slice_index_or}
 use Rattle.std.proofs.lemmas.Bool.{cases_lt}
 use Rattle.std.proofs.lemmas.List.{length-map}
 use Rattle.std.specs.List.{Contains}
 use Rattle.task_history.specs.declared.task.Task.{Task}
+use Rattle.task_history.specs.declared.record.Entry.{Entry}
 use Rattle.task_history.specs.declared.record.Event.{Event}
-use Rattle.task_history.specs.Lists.{posts, receives, tasks, outs, replies, is_asked, has_disposal, journal_at}
+use Rattle.task_history.specs.Lists.{listed, posts, receives, tasks, outs, replies, is_asked, has_ended, journal_at}
 use Rattle.isolate_meaning.specs.State.{fresh}
 use Rattle.isolate_meaning.specs.Fits.{Fits}
 use Rattle.isolate_meaning.specs.Laws.{calls}
-use Rattle.isolate_meaning.specs.Replay.{Replay}
 use Rattle.isolate_meaning.proofs.Replies.{replies_of_journal}
 use Rattle.isolate_meaning.proofs.Ends.{ended_of_journal}
 use Rattle.isolate_meaning.proofs.Told.{known_fits}
 use Rattle.host_syntax.specs.declared.script.HostScript.{HostScript}
 use Rattle.host_syntax.specs.Whole.{IsWhole}
-use Rattle.host_meaning.specs.Stand.{Stand, drawn, is_settled}
-use Rattle.host_meaning.specs.Settlement.{IsOfItsRun}
+use Rattle.host_meaning.specs.Stand.{Stand, place, drawn, is_settled}
+use Rattle.host_meaning.specs.Machine.{replies_of, has_answered, have_answered, is_finished, NoneLeft}
 use Rattle.host_meaning.specs.Course.{Worker, Scene, Course, IsAtRest, idle, record_of}
-use Rattle.host_meaning.specs.Lawful.{IsLawful, AreCaused}
+use Rattle.host_meaning.specs.Lawful.{IsLawful}
 use Rattle.host_laws.specs.Courses.{IsBeside, AreBeside, NextTasksFit}
+use Rattle.host_laws.specs.Finished.{HasDone, AllHaveDone}
 use Rattle.host_laws.proofs.Lists.{contains_at}
-use Rattle.host_laws.proofs.Settled.{times_of_settled}
 use Rattle.host_laws.proofs.Accounted.{IsAnswered, accounted}
-use Rattle.host_laws.proofs.Told.{told}
-use Rattle.host_laws.proofs.Entries.{run_at, call_there, contains_head}
+use Rattle.host_laws.proofs.Entries.{call_there, contains_head}
 use Rattle.host_laws.proofs.Workers.{worker_at, limit_at, limit_is, get_within, worker_past}
 use Rattle.host_laws.proofs.AnyOrder.{Holds, holds_course, beside_at}
-use Rattle.host_laws.proofs.Numbers.{none_left_when_all_settled}
+use Rattle.host_laws.proofs.Numbers.{each_all_settled, none_left_when_all_settled}
+use Rattle.host_laws.proofs.Finished.{done_ended, finished_lawful}
+use Rattle.host_laws.proofs.Stays.{done_at_rest}
 
 -- ---- a task that waits
 
@@ -83,6 +84,22 @@ rested_answers stand i limit n worker task rested answered there named =
     answered i n (subst (λ x. Contains x (Some n)) (sym (rested_calls i limit stand.history worker rested))
     (call_there worker.journal task n (subst (λ x. Contains x task) (sym (rested_posts i limit stand.history worker rested)) there) named))
 
+both : {a b : Bool} → a ≡ true → b ≡ true → (a && b) ≡ true
+both {a} {b} left right = ap (λ x. x && b) left ∙ right
+
+asked_over : (asked over : Bool) → (asked ≡ true → over ≡ true) → (not asked || over) ≡ true
+asked_over true over ends = ends refl
+asked_over false over ends = refl
+
+-- a journal has at most as many tasks as calls, one an entry
+tasks_called : (journal : List Entry) → length (tasks journal) ≤ length (calls journal)
+tasks_called [] = grind arith
+tasks_called (entry ∷ journal) = more entry.task (tasks_called journal)
+  where
+    more : (task : Option Task) → length (tasks journal) ≤ length (calls journal) → length (listed task ++ tasks journal) ≤ suc (length (calls journal))
+    more None few = grind (arith, few)
+    more (Some task) few = grind (arith, few)
+
 module _ (script : HostScript) (scene : Scene) (holds : Holds script scene) (rest : IsAtRest scene) where
   rested : (i : ℕ) → Rested i (limit_at script.isolates i) scene.stand.history (worker_at scene.workers i)
   rested i = record {
@@ -102,40 +119,47 @@ module _ (script : HostScript) (scene : Scene) (holds : Holds script scene) (res
   journal_is : (i : ℕ) → journal_at (record_of scene).isolates i ≡ (worker_at scene.workers i).journal
   journal_is i = journal_by scene.workers i (idle i 0) refl
 
-  of_its_run : IsOfItsRun (record_of scene).isolates scene.stand.history
-  of_its_run n i p there =
-      let is = told script scene.stand holds.run n i p there in
-      let called : slice_get (calls (worker_at scene.workers i).journal) p ≡ Some (Some n) =
-      subst (λ x. slice_get x p ≡ Some (Some n)) (rested_calls i (limit_at script.isolates i) scene.stand.history (worker_at scene.workers i) (rested i)) is in
-      let found = run_at (worker_at scene.workers i).journal p n called in
-      (found.0, subst (λ x. slice_get x p ≡ Some found.0) (sym (journal_is i)) found.1, found.2)
+  has_done : (i : ℕ) → HasDone i (limit_at script.isolates i) scene.stand.history (worker_at scene.workers i).journal
+  has_done i = done_at_rest i (limit_at script.isolates i) (worker_at scene.workers i) scene.stand.history (rested i).none_wait (rested i).none_sent (rested i).beside
 
-  ended : (i : ℕ) → is_asked i scene.stand.history ≡ true → has_disposal (journal_at (record_of scene).isolates i) ≡ true
-  ended i asked =
+  all_have_done : AllHaveDone script scene.stand.history (record_of scene).isolates
+  all_have_done i limit is =
+      subst (λ j. HasDone i limit scene.stand.history j) (sym (journal_is i))
+      (subst (λ m. HasDone i m scene.stand.history (worker_at scene.workers i).journal) (limit_is script i limit is) (has_done i))
+
+  -- an isolate that was asked to stop has told its end
+  told_end : (i : ℕ) → is_asked i scene.stand.history ≡ true → has_ended i scene.stand.history ≡ true
+  told_end i asked =
       let worker = worker_at scene.workers i in
       let l : i < length scene.workers = subst (λ n. i < n) (sym holds.count) (holds.within i asked) in
-      ap has_disposal (journal_is i) ∙ ended_of_journal i (limit_at script.isolates i) worker.journal worker.isolate (holds.beside i).replays
+      sym (done_ended i (limit_at script.isolates i) scene.stand.history worker.journal (has_done i))
+      ∙ ended_of_journal i (limit_at script.isolates i) worker.journal worker.isolate (holds.beside i).replays
       ∙ rest.ended i worker (get_within scene.workers i l) asked
 
-  pub at_rest : IsLawful script (record_of scene)
-  at_rest = record {
-    stand = scene.stand;
-    run = holds.run;
-    history = refl;
-    whole = none_left_when_all_settled script scene.stand holds.run each_settled rest.blocked;
-    journals = length-map scene.workers (λ (w : Worker). w.journal) ∙ holds.count;
-    posted = λ i. ap tasks (journal_is i) ∙ rested_posts i (limit_at script.isolates i) scene.stand.history (worker_at scene.workers i) (rested i);
-    received = λ i. rested_receives i (limit_at script.isolates i) scene.stand.history (worker_at scene.workers i) (rested i) ∙ sym (ap outs (journal_is i));
-    replays = λ i most is. (
-      (worker_at scene.workers i).isolate,
-      subst (λ j. Replay (fresh i most) j (worker_at scene.workers i).isolate) (sym (journal_is i))
-          (subst (λ m. Replay (fresh i m) (worker_at scene.workers i).journal (worker_at scene.workers i).isolate) (limit_is script i most is) (holds.beside i).replays),
-    );
-    caused = λ i. subst (λ j. AreCaused i j [] scene.stand.history) (sym (journal_is i)) (holds.beside i).caused;
-    settled = λ n l. times_of_settled script scene.stand holds.run n (each_settled n l);
-    of_its_run = of_its_run;
-    ended = ended;
-  }
+  answered : (i : ℕ) → has_answered scene.stand.history i ≡ true
+  answered i =
+      let worker = worker_at scene.workers i in
+      let few = tasks_called worker.journal in
+      let posted = ap length (rested_posts i (limit_at script.isolates i) scene.stand.history worker (rested i)) in
+      let replied = ap length (rested_calls i (limit_at script.isolates i) scene.stand.history worker (rested i)) in
+      let enough : nat_le (length (posts i scene.stand.history)) (replies_of i scene.stand.history) ≡ true = grind (arith, few, posted, replied) in
+      both enough (asked_over (is_asked i scene.stand.history) (has_ended i scene.stand.history) (told_end i))
+
+  all_answered : (n : ℕ) → have_answered scene.stand.history n ≡ true
+  all_answered zero = refl
+  all_answered (suc n) = both (all_answered n) (answered n)
+
+  finished : is_finished scene.stand ≡ true
+  finished =
+      let none_left : NoneLeft scene.stand = none_left_when_all_settled script scene.stand holds.run each_settled rest.blocked in
+      let placed : (place scene.stand == length scene.stand.script.commands) ≡ true = grind (arith, none_left) in
+      both (both placed (each_all_settled scene.stand each_settled)) (all_answered (length scene.stand.script.isolates))
+
+  -- so the record of a course at rest is that of a host that has finished
+  pub at_rest : IsWhole script → IsLawful script (record_of scene)
+  at_rest whole =
+      finished_lawful script scene.stand (record_of scene).isolates whole holds.run finished
+      (length-map scene.workers (λ (w : Worker). w.journal) ∙ holds.count) all_have_done
 
 pub course_is_lawful : (script : HostScript) (scene : Scene) → IsWhole script → Course script scene → IsAtRest scene → IsLawful script (record_of scene)
-course_is_lawful script scene whole course rest = at_rest script scene (holds_course script scene whole course) rest
+course_is_lawful script scene whole course rest = at_rest script scene (holds_course script scene whole course) rest whole

@@ -82,13 +82,13 @@ asked_within stand wanted whole asked =
 
 -- ---- whom a move is to
 
-abbrev MovesTo : ℕ → Move → Type 0
+abbrev pub MovesTo : ℕ → Move → Type 0
 MovesTo n (Post i task) = i < n
 MovesTo n (Ask i) = i < n
 MovesTo n Own = Unit {0}
 MovesTo n Blocked = Unit {0}
 
-turn_within : (stand : Stand) → IsWhole stand.script → MovesTo (length stand.script.isolates) (turn stand).0
+pub turn_within : (stand : Stand) → IsWhole stand.script → MovesTo (length stand.script.isolates) (turn stand).0
 turn_within stand whole = turn_cases stand (λ m. MovesTo (length stand.script.isolates) m.0) tt tt tt
     (λ i budget kind may. asked_within stand (asks_task i budget kind) whole may.asked)
     (λ i may. asked_within stand (asks_stop i) whole may.asked)

@@ -1,0 +1,5 @@
+use Rattle.host_laws.proofs.Finished.{finished_lawful}
+use Rattle.host_laws.proofs.hosts.finished_records_are_lawful.Goals as goal
+
+pub returns : goal.returns
+returns c = finished_lawful
