@@ -19,7 +19,12 @@ use Rattle.host_laws.specs.Finished.{HasDone}
 
 -- an isolate that has one more entry, whose outs are on their way
 abbrev pub with_entry : Worker → Isolate → Entry → List Task → Worker
-with_entry worker isolate entry later = record { isolate = isolate; journal = worker.journal ++ entry ∷ []; waiting = later; sent = worker.sent ++ entry.outs }
+with_entry worker isolate entry later = record {
+  isolate = isolate;
+  journal = worker.journal ++ entry ∷ [];
+  waiting = later;
+  sent = worker.sent ++ entry.outs;
+}
 
 -- the move posts nothing to isolate i
 abbrev pub PostsNothing : ℕ → Move → Type 0
@@ -35,13 +40,13 @@ BeginsBeside = (i limit : ℕ) → IsBeside i limit [] (idle i limit)
 module _ (i limit : ℕ) (worker : Worker) where
   -- it does so after a command that posts nothing to it
   abbrev pub StaysAtTurns : Type 0
-  StaysAtTurns = (stand : Stand) → PostsNothing i (turn stand).0 → IsBeside i limit stand.history worker
-      → IsBeside i limit (turn stand).1.history worker
+  StaysAtTurns = (stand : Stand) → PostsNothing i (turn stand).0
+      → IsBeside i limit stand.history worker → IsBeside i limit (turn stand).1.history worker
 
   -- after a command that posts a task to it, which waits and names nothing but what was received from it
   abbrev pub StaysAtPosts : Type 0
-  StaysAtPosts = (stand : Stand) (task : Task) → (turn stand).0 ≡ Post i task → IsKnown (receives i stand.history) task
-      → IsBeside i limit stand.history worker
+  StaysAtPosts = (stand : Stand) (task : Task) → (turn stand).0 ≡ Post i task
+      → IsKnown (receives i stand.history) task → IsBeside i limit stand.history worker
       → IsBeside i limit (turn stand).1.history (record worker { waiting = worker.waiting ++ task ∷ [] })
 
   -- after it has carried out the first task that waits
@@ -64,10 +69,10 @@ module _ (i limit : ℕ) (worker : Worker) where
 
   -- after the host has received an out of another
   abbrev pub StaysAtOthers : Type 0
-  StaysAtOthers = (stand : Stand) (j : ℕ) (out : Out) → i ≢ j → IsBeside i limit stand.history worker
-      → IsBeside i limit (received stand j out).history worker
+  StaysAtOthers = (stand : Stand) (j : ℕ) (out : Out) → i ≢ j
+      → IsBeside i limit stand.history worker → IsBeside i limit (received stand j out).history worker
 
   -- where nothing waits for it and nothing is on its way from it, it has done all that was posted
   abbrev pub HasDoneAtRest : Type 0
-  HasDoneAtRest = (history : List Event) → worker.waiting ≡ [] → worker.sent ≡ [] → IsBeside i limit history worker
-      → HasDone i limit history worker.journal
+  HasDoneAtRest = (history : List Event) → worker.waiting ≡ [] → worker.sent ≡ []
+      → IsBeside i limit history worker → HasDone i limit history worker.journal
