@@ -1,5 +1,9 @@
 pub mod Nodes
 pub mod Walks
+pub mod Naturals
+pub mod Derived
+pub mod Kids
+pub mod Names
 pub mod Firsts
 pub mod PairLemmas
 pub mod KindLemmas

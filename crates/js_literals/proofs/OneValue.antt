@@ -1,5 +1,5 @@
 -- A text has one value.
-use Rattle.std.proofs.Common.{◌≡◌, ℕ, List, [], ◌∷◌, length, Some, refl, sym, ap, subst, ◌∙◌, true≢false}
+use Rattle.std.proofs.Common.{◌≡◌, ℕ, List, [], ◌∷◌, Some, refl, sym, ap, subst, ◌∙◌, true≢false}
 use Rattle.ivm_text.specs.declared.copies.Copy.{Copy}
 use Rattle.ivm_text.specs.declared.copies.CopyNode.{CopyNode}
 use Rattle.ivm_text.specs.declared.copies.Leaf.TheVariants as leaves

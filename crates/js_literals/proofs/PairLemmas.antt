@@ -5,11 +5,10 @@ use Rattle.std.specs.Map.{keys_of}
 use Rattle.std.specs.List.{IsDistinct}
 use Rattle.std.specs.List.Sorted.{IsPermutation}
 use Rattle.std.proofs.lemmas.List.Sorted.{IsPermutation-map}
-use Rattle.std.proofs.lemmas.List.Elements.{All-get_or, All-from_get_or, All-cons}
-use Rattle.std.proofs.lemmas.Option.{get_or_from_slice_get, slice_get-get_or}
+use Rattle.std.proofs.lemmas.List.Elements.{All-get_or, All-cons}
+use Rattle.std.proofs.lemmas.Option.{get_or_from_slice_get}
 use Rattle.std.proofs.lemmas.Cmp.{nat_list_eq_equiv}
 use Rattle.std.proofs.lemmas.List.{length-map, length-drop, nil_from_length}
-use Rattle.js_syntax.specs.Shape.{AreBelow}
 use Rattle.std.proofs.lemmas.Map.Keys.{IsDistinct-IsPermutation}
 use Rattle.ivm_text.specs.Keys.{is_key, with_value, HasDistinctKeys}
 use Rattle.ivm_text.specs.KeyOrder.{rank_of, key_order}
@@ -46,11 +45,11 @@ module _ {A B : Type 0} (f : A → B) where
 
 -- ---- numbers
 
-module _ (n : ℕ) where
+module _ (P : ℕ → Type 0) where
   abbrev below : List ℕ × ℕ → Type 0
-  below p = p.1 < n
+  below p = P p.1
 
-  All-with_value : (es : List (List ℕ × ℕ)) (k : List ℕ) (v : ℕ) → All below es → v < n → All below (with_value es k v)
+  All-with_value : (es : List (List ℕ × ℕ)) (k : List ℕ) (v : ℕ) → All below es → P v → All below (with_value es k v)
   All-with_value [] k v all h = All-cons below (k, v) [] h (λ i d out. absurd (omega arith))
   All-with_value (e ∷ es) k v all h =
       let rest : All below es = λ i d within. all (suc i) d (omega arith) in
@@ -59,15 +58,15 @@ module _ (n : ℕ) where
         | false ↦ All-cons below e (with_value es k v) (all 0 e (omega arith)) (All-with_value es k v rest h)
       ]
 
-  pub All-given : (ks : List (List ℕ)) (vs : List ℕ) (es : List (List ℕ × ℕ)) → All (λ v. v < n) vs → All below es → All below (given es (zip ks vs))
+  pub All-given : (ks : List (List ℕ)) (vs : List ℕ) (es : List (List ℕ × ℕ)) → All P vs → All below es → All below (given es (zip ks vs))
   All-given [] vs es all done = done
   All-given (k ∷ ks) [] es all done = done
   All-given (k ∷ ks) (v ∷ vs) es all done =
       All-given ks vs (with_value es k v) (λ i d within. all (suc i) d (omega arith)) (All-with_value es k v done (all 0 0 (omega arith)))
 
-  pub number_there : (es : List (List ℕ × ℕ)) (i : ℕ) (p : List ℕ × ℕ) → i < length es → All below es → slice_get es i ≡ Some p → p.1 < n
+  pub number_there : (es : List (List ℕ × ℕ)) (i : ℕ) (p : List ℕ × ℕ) → i < length es → All below es → slice_get es i ≡ Some p → P p.1
   number_there es i p within all e =
-      subst (λ q. q.1 < n) (get_or_from_slice_get es i p p e) (All-get_or below es i p within all)
+      subst (λ q. P q.1) (get_or_from_slice_get es i p p e) (All-get_or below es i p within all)
 
 -- ---- walks
 
@@ -126,8 +125,3 @@ ordered_past es ordered places i e past =
 pub keys_differ : (es ordered : List (List ℕ × ℕ)) → IsPermutation es ordered → HasDistinctKeys es → IsDistinct is_key (keys_of ordered)
 keys_differ es ordered moved apart =
     IsDistinct-IsPermutation is_key (nat_list_eq_equiv.symm) (keys_of es) (keys_of ordered) (IsPermutation-map (λ (p : List ℕ × ℕ). p.0) es ordered moved) apart
-
--- ---- kids
-
-pub numbers_below : (ks : List ℕ) (n m : ℕ) → AreBelow ks n → n < m → All (λ k. k < m) ks
-numbers_below ks n m below h = All-from_get_or (λ k. k < m) ks 0 (λ i within. let lower = below i (get_or ks i 0) (slice_get-get_or ks i 0 within) in omega (arith, lower, h))

@@ -8,7 +8,7 @@ use Rattle.ivm_text.specs.declared.copies.Leaf.{Leaf}
 use Rattle.ivm_text.specs.declared.copies.Leaf.TheVariants as leaves
 use Rattle.js_syntax.specs.declared.node.Node.{Node}
 use Rattle.js_literals.specs.Copies.{Tree, is_node, primitive, leaf_at, past, leaves_from, pairs_from}
-use Rattle.js_literals.specs.View.{tree_at, trees_at, AreNumbers, Mentions}
+use Rattle.js_literals.specs.View.{tree_at, trees_at, IsNumber, AreNumbers, Mentions}
 
 -- ---- one literal
 
@@ -24,12 +24,12 @@ one_kept t e = rw e refl
 none_kept : (t : Tree) → is_node t ≡ false → filter is_node (t ∷ []) ≡ []
 none_kept t e = rw e refl
 
-pub mentions_node : (nodes : List Node) (n : ℕ) (old new : List ℕ) → is_node (tree_at nodes n) ≡ true → n < length nodes → new ≡ old ++ n ∷ []
+pub mentions_node : (nodes : List Node) (n : ℕ) (old new : List ℕ) → is_node (tree_at nodes n) ≡ true → IsNumber nodes n → new ≡ old ++ n ∷ []
     → Mentions nodes (tree_at nodes n ∷ []) old new
 mentions_node nodes n old new node within e = record {
   order = ap (trees_at nodes) e ∙ map-append (tree_at nodes) old (n ∷ []) ∙ ap (λ ts. trees_at nodes old ++ ts) (sym (one_kept (tree_at nodes n) node));
   numbers = λ h. subst (λ ns. AreNumbers nodes ns) (sym e)
-      (All-append (λ k. k < length nodes) old (n ∷ []) h (All-cons (λ k. k < length nodes) n [] within (λ k d out. absurd (omega arith))));
+      (All-append (IsNumber nodes) old (n ∷ []) h (All-cons (IsNumber nodes) n [] within (λ k d out. absurd (omega arith))));
 }
 
 pub mentions_none : (nodes : List Node) (t : Tree) (old : List ℕ) → is_node t ≡ false → Mentions nodes (t ∷ []) old old

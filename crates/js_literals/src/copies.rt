@@ -5,7 +5,7 @@ ghost use Rattle.std.specs.Map.{values_of};
 ghost use Rattle.ivm_text.specs.Keys.{HasDistinctKeys};
 ghost use Rattle.ivm_text.specs.KeyOrder.{key_order};
 ghost use Rattle.js_literals.specs.Copies.{IsCopyOf, AreNodesOf, parts, is_node_kind, is_array, is_object, primitive, constant, is_minus, value_of_first, leaf_at, leaves_from, pairs_from, node_at, members};
-ghost use Rattle.js_literals.specs.View.{tree_at, trees_at, Mentions, AreNumbers, HaveNumbers, pairs_at};
+ghost use Rattle.js_literals.specs.View.{tree_at, trees_at, Mentions, IsNatural, HasNaturals, AreNumbers, HaveNumbers, pairs_at};
 
 use crate::objects::{entries_of, entry_at};
 use indexmap::IndexMap;
@@ -18,7 +18,8 @@ use std::alloc::Global;
 
 /// The copy of the literal at a node.
 pub(crate) fn copy_of(alloc: Global, script: &Script, number: u32) -> Result<Copy, NoMemory>
-    requires { number < length script.now }
+    requires within { number < length script.now }
+    requires naturals { HasNaturals (tree_at script.now number) }
     ensures { IfOk result (λ copy. IsCopyOf (tree_at script.now number) copy) }
 {
     if is_node(script.node(number).kind) {
@@ -28,7 +29,7 @@ pub(crate) fn copy_of(alloc: Global, script: &Script, number: u32) -> Result<Cop
             root: Leaf::Node(0),
         })
     } else {
-        let root = primitive(script, number)?;
+        let root = primitive(script, number);
         Ok(Copy {
             nodes: Items::new(alloc),
             root,
@@ -38,7 +39,8 @@ pub(crate) fn copy_of(alloc: Global, script: &Script, number: u32) -> Result<Cop
 
 /// The nodes of a copy in the order in which they are first mentioned.
 fn nodes_of(alloc: Global, script: &Script, root: u32) -> Result<CopyNodes, NoMemory>
-    requires { root < length script.now }
+    requires within { root < length script.now }
+    requires naturals { HasNaturals (tree_at script.now root) }
     ensures { IfOk result (AreNodesOf (tree_at script.now root)) }
 {
     let mut mentioned = Items::new(alloc);
@@ -59,7 +61,8 @@ fn node_of(
     mentioned: &mut Items<u32>,
     number: u32,
 ) -> Result<CopyNode, NoMemory>
-    requires { number < length script.now }
+    requires within { number < length script.now }
+    requires naturals { HasNaturals (tree_at script.now number) }
     ensures node { IfOk result (λ node. node ≡ node_at (length mentioned.old) (tree_at script.now number)) }
     ensures mentioned { IfOk result (λ _. Mentions script.now (members (tree_at script.now number)) mentioned.old mentioned.new) }
 {
@@ -131,7 +134,8 @@ fn leaves_by_key(
 
 /// The leaf of a literal. Where it is a node, it is mentioned.
 fn leaf_of(script: &Script, mentioned: &mut Items<u32>, number: u32) -> Result<Leaf, NoMemory>
-    requires { number < length script.now }
+    requires within { number < length script.now }
+    requires naturals { HasNaturals (tree_at script.now number) }
     ensures leaf { IfOk result (λ leaf. leaf ≡ leaf_at (length mentioned.old) (tree_at script.now number)) }
     ensures mentioned { IfOk result (λ _. Mentions script.now (tree_at script.now number ∷ []) mentioned.old mentioned.new) }
 {
@@ -140,42 +144,42 @@ fn leaf_of(script: &Script, mentioned: &mut Items<u32>, number: u32) -> Result<L
         mentioned.push(number)?;
         Ok(Leaf::Node(node))
     } else {
-        primitive(script, number)
+        Ok(primitive(script, number))
     }
 }
 
 /// What a literal that is no node stands for.
-fn primitive(script: &Script, number: u32) -> Result<Leaf, NoMemory>
-    requires { number < length script.now }
-    ensures { IfOk result (λ leaf. leaf ≡ primitive (tree_at script.now number)) }
+fn primitive(script: &Script, number: u32) -> Leaf
+    requires within { number < length script.now }
+    requires naturals { HasNaturals (tree_at script.now number) }
+    ensures { result ≡ primitive (tree_at script.now number) }
 {
     let node = script.node(number);
     if is_minus(node.kind) {
         negative(script, number)
     } else {
-        Ok(constant(node))
+        constant(node)
     }
 }
 
 /// The negative of a literal's first part, which is a number.
-fn negative(script: &Script, number: u32) -> Result<Leaf, NoMemory>
-    requires { number < length script.now }
-    ensures { IfOk result (λ leaf. leaf ≡ Leaf.Num (neg_ℤ (value_of_first (parts (tree_at script.now number))))) }
+fn negative(script: &Script, number: u32) -> Leaf
+    requires within { number < length script.now }
+    requires naturals { HasNaturals (tree_at script.now number) }
+    ensures { result ≡ Leaf.Num (neg_ℤ (value_of_first (parts (tree_at script.now number)))) }
 {
     match script.node(number).kids.as_slice() {
         [kid, ..] => negated(script.node(*kid)),
-        [] => Ok(Leaf::Num(0)),
+        [] => Leaf::Num(0),
     }
 }
 
-/// The negative of a node's number. That there is one is tested.
-fn negated(node: &Node) -> Result<Leaf, NoMemory>
-    ensures { IfOk result (λ leaf. leaf ≡ Leaf.Num (neg_ℤ node.now.number)) }
+/// The negative of a node's number.
+fn negated(node: &Node) -> Leaf
+    requires { IsNatural node.now.number }
+    ensures { result ≡ Leaf.Num (neg_ℤ node.now.number) }
 {
-    match node.number.checked_neg() {
-        Some(negative) => Ok(Leaf::Num(negative)),
-        None => Err(NoMemory),
-    }
+    Leaf::Num(-node.number)
 }
 
 /// What a literal of one token stands for.

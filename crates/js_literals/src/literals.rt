@@ -1,10 +1,10 @@
 //! Literals and arguments from their bytes.
 
-ghost use Rattle.std.specs.Prelude.{◌≡◌, ◌<◌, ◌^◌, length, IfOk, IfErr, Some, true};
+ghost use Rattle.std.specs.Prelude.{◌≡◌, ℕ, ◌<◌, ◌^◌, List, length, IfOk, IfErr, Some, true};
 ghost use Rattle.js_parser.specs.Parsed.{IsLiteralFault, IsArgumentsFault};
 ghost use Rattle.js_parser.specs.View.{tree_of};
 ghost use Rattle.js_literals.specs.Told.{IsLiteral, AreArguments, IsArgument, AreEach, is_call, form_named, form_of_name, parts_of_text};
-ghost use Rattle.js_literals.specs.View.{tree_at, trees_at, AreNumbers};
+ghost use Rattle.js_literals.specs.View.{tree_at, trees_at, HaveNaturals, HasNaturals, AreNumbers, IsFit, AreFit};
 
 use crate::argument::{Argument, FormKind};
 use crate::copies::copy_of;
@@ -24,10 +24,8 @@ pub fn literal(alloc: Global, text: &[u8]) -> Result<Copy, SyntaxFault>
     ensures err { IfErr result (IsLiteralFault text.now) }
 {
     let script = parse_literal(alloc, text)?;
-    match parts_of(&script) {
-        [part] => Ok(copy_of(alloc, &script, *part)?),
-        _ => Err(SyntaxFault::NoMemory),
-    }
+    let part = parts_of(&script)[0];
+    Ok(copy_of(alloc, &script, part)?)
 }
 
 /// The arguments in a text of fewer than 2^32 bytes, maybe none.
@@ -45,6 +43,7 @@ pub fn arguments(alloc: Global, text: &[u8]) -> Result<Items<Argument>, SyntaxFa
 
 /// The numbers of the parts of a text.
 fn parts_of(script: &Script) -> &[u32]
+    requires { HaveNaturals (tree_of script.now) }
     ensures parts { parts_of_text (tree_of script.now) ≡ trees_at script.now result.now }
     ensures numbers { AreNumbers script.now result.now }
 {
@@ -55,7 +54,8 @@ fn parts_of(script: &Script) -> &[u32]
 }
 
 fn arguments_of(alloc: Global, script: &Script, parts: &[u32]) -> Result<Items<Argument>, NoMemory>
-    requires { AreNumbers script.now parts.now }
+    requires numbers { AreNumbers script.now parts.now }
+    requires fit { AreFit (trees_at script.now parts.now) }
     ensures { IfOk result (AreEach (trees_at script.now parts.now)) }
 {
     let mut told = Items::new(alloc);
@@ -67,7 +67,9 @@ fn arguments_of(alloc: Global, script: &Script, parts: &[u32]) -> Result<Items<A
 }
 
 fn argument(alloc: Global, script: &Script, number: u32) -> Result<Argument, NoMemory>
-    requires { number < length script.now }
+    requires within { number < length script.now }
+    requires naturals { HasNaturals (tree_at script.now number) }
+    requires fit { IsFit (tree_at script.now number) }
     ensures { IfOk result (λ argument. IsArgument (tree_at script.now number) argument) }
 {
     if is_call(script.node(number).kind) {
@@ -87,45 +89,37 @@ fn is_call(kind: Kind) -> bool
     }
 }
 
-/// An argument `W(N)`. That both are there is tested.
+/// An argument `W(N)`.
 fn form_of(alloc: Global, script: &Script, number: u32) -> Result<Argument, NoMemory>
-    requires { number < length script.now }
-    ensures { IfOk result (λ argument. is_call (tree_at script.now number).head.kind ≡ true → IsArgument (tree_at script.now number) argument) }
+    requires within { number < length script.now }
+    requires call { is_call (tree_at script.now number).head.kind ≡ true }
+    requires fit { IsFit (tree_at script.now number) }
+    ensures { IfOk result (λ argument. IsArgument (tree_at script.now number) argument) }
 {
-    match script.node(number).kids.as_slice() {
-        [callee, passed] => {
-            let form = form_at(script, *callee)?;
-            let name = name_at(alloc, script, *passed)?;
-            Ok(Argument::Form(form, name))
-        }
-        _ => Err(NoMemory),
-    }
+    let kids = script.node(number).kids.as_slice();
+    let form = form_at(script, kids[0]);
+    let name = name_at(alloc, script, kids[1])?;
+    Ok(Argument::Form(form, name))
 }
 
-/// What the word at a node says is passed. That there is a word, and that it passes something, is
-/// tested.
-fn form_at(script: &Script, number: u32) -> Result<FormKind, NoMemory>
-    requires { number < length script.now }
-    ensures { IfOk result (λ form. form_of_name (tree_at script.now number).head.name ≡ Some form) }
+/// What the word at a node says is passed.
+fn form_at(script: &Script, number: u32) -> FormKind
+    requires within { number < length script.now }
+    requires passes { (form : FormKind) × (form_of_name (tree_at script.now number).head.name ≡ Some form) }
+    ensures { form_of_name (tree_at script.now number).head.name ≡ Some result }
 {
-    match &script.node(number).name {
-        Some(word) => match form_named(word) {
-            Some(form) => Ok(form),
-            None => Err(NoMemory),
-        },
-        None => Err(NoMemory),
-    }
+    let word = script.node(number).name.as_ref().unwrap();
+    form_named(word).unwrap()
 }
 
-/// The name at a node. That there is one is tested.
+/// The name at a node.
 fn name_at(alloc: Global, script: &Script, number: u32) -> Result<Units, NoMemory>
-    requires { number < length script.now }
+    requires within { number < length script.now }
+    requires named { (name : List ℕ) × ((tree_at script.now number).head.name ≡ Some name) }
     ensures { IfOk result (λ name. (tree_at script.now number).head.name ≡ Some name) }
 {
-    match &script.node(number).name {
-        Some(name) => Ok(name.clone_whole(alloc)?),
-        None => Err(NoMemory),
-    }
+    let name = script.node(number).name.as_ref().unwrap();
+    Ok(name.clone_whole(alloc)?)
 }
 
 /// What a word says is passed.

@@ -10,7 +10,7 @@ returns-in_ok-nodes c =
     let s = stands c.args.script.now c.args.number c.node.result.now c.node.ensures.node c.node.ensures.kids in
     in_nodes (ap is_node_kind s.kind ∙ sym c.is_node.ensures ∙ c.if-is_node.true) c.in_ok-nodes.ensures
 
-pub returns-in_ok-root : goal.returns-in_ok-root
-returns-in_ok-root c =
+pub returns-else-is_node : goal.returns-else-is_node
+returns-else-is_node c =
     let s = stands c.args.script.now c.args.number c.node.result.now c.node.ensures.node c.node.ensures.kids in
-    leaf_copy (tree_at c.args.script.now c.args.number) _ _ (ap is_node_kind s.kind ∙ sym c.is_node.ensures ∙ c.if-is_node.false) c.new.ensures c.in_ok-root.ensures
+    leaf_copy (tree_at c.args.script.now c.args.number) _ _ (ap is_node_kind s.kind ∙ sym c.is_node.ensures ∙ c.if-is_node.false) c.new.ensures c.primitive-root.ensures

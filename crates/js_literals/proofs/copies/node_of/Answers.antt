@@ -1,19 +1,20 @@
-use Rattle.std.proofs.Common.{ℕ, ◌<◌, List, [], length, sym, ap, ◌∙◌, subst, arith}
-use Rattle.std.specs.Prelude.{All}
+use Rattle.std.proofs.Common.{ℕ, List, [], length, sym, ap, ◌∙◌, subst, arith}
 use Rattle.std.specs.Map.{values_of}
 use Rattle.ivm_text.specs.KeyOrder.{key_order}
 use Rattle.js_literals.specs.Copies.{Tree, is_array, is_object, leaves_from, pairs_from}
-use Rattle.js_literals.specs.View.{tree_at, trees_at, pairs_at, Mentions}
+use Rattle.js_literals.specs.View.{tree_at, trees_at, pairs_at, Mentions, IsNumber, AreNumbers, HaveNumbers}
 use Rattle.js_literals.proofs.Nodes.{stands}
-use Rattle.js_literals.proofs.PairLemmas.{All-given, numbers_below}
+use Rattle.js_literals.proofs.Naturals.{kids_numbers}
+use Rattle.js_literals.proofs.PairLemmas.{All-given}
 use Rattle.js_literals.proofs.KindLemmas.{array_node, array_members, object_node, object_members, text_node, text_mentions, properties_at}
 use Rattle.js_literals.proofs.copies.node_of.Goals as goal
 
 pub leaves_by_key-requires-clause-numbers : goal.leaves_by_key-requires-clause-numbers
 leaves_by_key-requires-clause-numbers c =
     let node = c.node-node.result.now in
-    subst (λ (es : List (List ℕ × ℕ)). All (λ p. p.1 < length c.args.script.now) es) (sym c.in_ok-entries.ensures.entries)
-    (All-given (length c.args.script.now) node.names node.kids [] (numbers_below node.kids c.args.number (length c.args.script.now) c.node-node.ensures.kids c.requires) (λ k d out. absurd (omega arith)))
+    let s = stands c.args.script.now c.args.number node c.node-node.ensures.node c.node-node.ensures.kids in
+    subst (λ (es : List (List ℕ × ℕ)). HaveNumbers c.args.script.now es) (sym c.in_ok-entries.ensures.entries)
+    (All-given (IsNumber c.args.script.now) node.names node.kids [] (kids_numbers c.args.script.now c.args.number node s c.node-node.ensures.kids c.requires.within c.requires.naturals) (λ k d out. absurd (omega arith)))
 
 pub returns-in_ok-elements-clause-node : goal.returns-in_ok-elements-clause-node
 returns-in_ok-elements-clause-node c =
@@ -58,3 +59,9 @@ returns-in_ok-text-clause-mentioned c =
     let nodes = c.args.script.now in
     let s = stands nodes c.args.number c.node-node.result.now c.node-node.ensures.node c.node-node.ensures.kids in
     text_mentions nodes (tree_at nodes c.args.number) c.args.mentioned.now (ap is_array s.kind ∙ sym c.is_array.ensures ∙ c.if-is_array.false) (ap is_object s.kind ∙ sym c.is_object.ensures ∙ c.if-is_object.false)
+
+pub leaves_of-requires : goal.leaves_of-requires
+leaves_of-requires c =
+    let nodes = c.args.script.now in
+    let s = stands nodes c.args.number c.node-node.result.now c.node-node.ensures.node c.node-node.ensures.kids in
+    subst (λ (ks : List ℕ). AreNumbers nodes ks) (sym c.as_slice.ensures.items) (kids_numbers nodes c.args.number c.node-node.result.now s c.node-node.ensures.kids c.requires.within c.requires.naturals)

@@ -1,5 +1,4 @@
 use Rattle.std.proofs.Common.{sym, ap, ◌∙◌}
-use Rattle.js_parser.proofs.Works.{ok_map}
 use Rattle.js_literals.specs.Copies.{is_minus, constant}
 use Rattle.js_literals.specs.View.{tree_at}
 use Rattle.js_literals.proofs.Nodes.{stands}
@@ -9,7 +8,7 @@ use Rattle.js_literals.proofs.copies.primitive.Goals as goal
 pub returns-then-is_minus : goal.returns-then-is_minus
 returns-then-is_minus c =
     let s = stands c.args.script.now c.args.number c.node-node.result.now c.node-node.ensures.node c.node-node.ensures.kids in
-    ok_map c.negative.result (λ l e. is_negative (tree_at c.args.script.now c.args.number) l (ap is_minus s.kind ∙ sym c.is_minus.ensures ∙ c.if-is_minus.true) e) c.negative.ensures
+    is_negative (tree_at c.args.script.now c.args.number) c.negative.result (ap is_minus s.kind ∙ sym c.is_minus.ensures ∙ c.if-is_minus.true) c.negative.ensures
 
 pub returns-else-is_minus : goal.returns-else-is_minus
 returns-else-is_minus c =

@@ -1,10 +1,9 @@
-use Rattle.std.proofs.Common.{◌≡◌, ℕ, ◌-◌, ◌<◌, [], List, length, sym, ap, ◌∙◌, subst, arith}
-use Rattle.std.specs.Prelude.{All}
+use Rattle.std.proofs.Common.{◌≡◌, ℕ, ◌-◌, [], List, length, sym, ap, ◌∙◌, subst, arith}
 use Rattle.js_parser.specs.View.{grown, root_at}
 use Rattle.js_literals.specs.Copies.{side_by_side}
-use Rattle.js_literals.specs.View.{trees_at}
+use Rattle.js_literals.specs.View.{tree_at, trees_at, HasNaturals, AreNumbers}
 use Rattle.js_literals.proofs.Nodes.{stands}
-use Rattle.js_literals.proofs.PairLemmas.{numbers_below}
+use Rattle.js_literals.proofs.Naturals.{kids_numbers}
 use Rattle.js_literals.proofs.Texts.{no_parts}
 use Rattle.js_literals.proofs.literals.parts_of.Goals as goal
 
@@ -19,5 +18,9 @@ returns-clause-parts c =
 
 pub returns-clause-numbers : goal.returns-clause-numbers
 returns-clause-numbers c =
-    subst (λ (ks : List ℕ). All (λ k. k < length c.args.script.now) ks) (sym c.as_slice.ensures.items)
-    (numbers_below c.node.result.now.kids c.root.result (length c.args.script.now) c.node.ensures.kids (omega arith))
+    let nodes = c.args.script.now in
+    let s = stands nodes c.root.result c.node.result.now c.node.ensures.node c.node.ensures.kids in
+    let at : length nodes - 1 ≡ c.root.result = omega arith in
+    let whole : HasNaturals (tree_at nodes c.root.result) = subst (λ (n : ℕ). HasNaturals (tree_at nodes n)) at (c.requires.0, c.requires.1) in
+    subst (λ (ks : List ℕ). AreNumbers nodes ks) (sym c.as_slice.ensures.items)
+    (kids_numbers nodes c.root.result c.node.result.now s c.node.ensures.kids (omega arith) whole)
