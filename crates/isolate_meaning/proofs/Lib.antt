@@ -3,4 +3,5 @@ pub mod Replays
 pub mod Replies
 pub mod Ends
 pub mod Told
+pub mod Limits
 pub mod Only

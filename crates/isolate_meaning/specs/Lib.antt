@@ -6,3 +6,4 @@ pub mod Does
 pub mod Replay
 pub mod Known
 pub mod Laws
+pub mod Limits

@@ -8,6 +8,7 @@ ghost use Rattle.task_history.specs.declared.record.Entry.{Entry};
 ghost use Rattle.isolate_meaning.specs.State.{Isolate, fresh};
 ghost use Rattle.isolate_meaning.specs.Does.{Does};
 ghost use Rattle.isolate_meaning.specs.Replay.{Replay};
+ghost use Rattle.isolate_meaning.specs.Limits.{KeepTheirLimits};
 ghost use Rattle.isolate_meaning.specs.Laws.{AnswersEachOnce, EndsByDisposal, IsContextReply, IsOneDeed, IsOneEnd, IsRefusedWhereEnded, HasCause, KnownFits, TellsWhatIsThere};
 
 use js_scripts::texts_are_read_once;
@@ -31,6 +32,13 @@ pub fn disposals_end()
 /// Why an isolate has ended stands in its journal: a stop by the host, or a task that passed its limit in cells.
 pub fn ends_have_causes()
     ensures { (i limit : ℕ) (journal : List Entry) (last : Isolate) → Replay (fresh i limit) journal last → HasCause journal last.state }
+{}
+
+/// No entry of a journal has more cells than its isolate's limit, or more ticks than its task's budget. Where a task ran
+/// out of ticks, it took its whole budget. Where it passed the limit, the entry tells by how much. The limit of the store
+/// is the isolate's.
+pub fn entries_keep_their_limits()
+    ensures { (i limit : ℕ) (journal : List Entry) (last : Isolate) → Replay (fresh i limit) journal last → KeepTheirLimits limit journal last }
 {}
 
 /// A context that is made is told with the number of the contexts before it and that of its row, unless the isolate has

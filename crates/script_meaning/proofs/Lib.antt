@@ -1,2 +1,4 @@
 pub mod LoopLaws
+pub mod StoreLimits
+pub mod OutcomeLimits
 pub mod TickLaws

@@ -6,4 +6,5 @@ pub mod Statements
 pub mod Loops
 pub mod Handlers
 pub mod Ticks
+pub mod Limits
 pub mod Evaluates

@@ -1,7 +1,8 @@
 //! What holds of every evaluation.
-ghost use Rattle.std.specs.Prelude.{◌≡◌, ℕ, Option};
+ghost use Rattle.std.specs.Prelude.{◌≡◌, ℕ, List, Option};
 ghost use Rattle.charged_heap.specs.declared.values.Value.{Value};
-ghost use Rattle.script_meaning.specs.Evaluates.{evaluated};
+ghost use Rattle.script_meaning.specs.Evaluates.{call_run, evaluated, script_run};
+ghost use Rattle.script_meaning.specs.Limits.{RunsWithin};
 ghost use Rattle.script_meaning.specs.Loops.{Loop, loop_rule, round};
 ghost use Rattle.script_meaning.specs.Outcome.{Inside, State};
 ghost use Rattle.script_meaning.specs.Places.{ScriptList};
@@ -12,6 +13,13 @@ ghost use Rattle.script_meaning.specs.declared.site.Site.{Site};
 /// nothing changed.
 pub fn nodes_take_ticks()
     ensures { (scripts : ScriptList) (room : ℕ) → TakesTicks (evaluated scripts room) }
+{}
+
+/// The run of a script, and of a function that is called, stays within the limit in cells of its heap and takes no tick
+/// back. Where it is stopped, no tick is left, or the next charge would have passed the limit and is told.
+pub fn runs_keep_limits()
+    ensures script { (scripts : ScriptList) (script root names global : ℕ) (s : State) → RunsWithin s (script_run scripts script root names global s) }
+    ensures call { (scripts : ScriptList) (function receiver : Value) (arguments : List Value) (s : State) → RunsWithin s (call_run scripts function receiver arguments s) }
 {}
 
 /// A loop is one round and behind it the loop, where each node inside takes a tick.

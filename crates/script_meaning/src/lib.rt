@@ -11,5 +11,5 @@ mod laws;
 mod site;
 
 pub use completion::{Abrupt, Completion, Ended, StopCause};
-pub use laws::{loops_go_on, nodes_take_ticks};
+pub use laws::{loops_go_on, nodes_take_ticks, runs_keep_limits};
 pub use site::{Key, Place, Role, Site};
