@@ -1,6 +1,6 @@
 -- What an operator comes to over the values of a store, before anything is made.
 -- ECMA-262, ApplyStringOrNumericBinaryOperator, IsLessThan, IsStrictlyEqual and Unary Operators, without conversions; docs/SCRIPTS.md, "Operators".
-use Rattle.std.specs.Prelude.{ℕ, ℤ, pos, List, ◌++◌, Bool, not, Option, None, Some, Result, Ok, Err, int_lt, int_le}
+use Rattle.std.specs.Prelude.{ℕ, ℤ, pos, List, ◌++◌, Bool, true, false, not, Option, None, Some, Result, Ok, Err, int_lt, int_le}
 use Rattle.std.specs.Ordering.{is_lt, nat_cmp}
 use Rattle.std.specs.Cmp.Lexicographic.{slice_cmp}
 use Rattle.charged_heap.specs.Store.{Store}
@@ -18,6 +18,8 @@ use Rattle.js_ops.specs.declared.operators.Arithmetic.{Arithmetic}
 use Rattle.js_ops.specs.declared.operators.Arithmetic.TheVariants as arithmetic
 use Rattle.js_ops.specs.declared.operators.Comparison.{Comparison}
 use Rattle.js_ops.specs.declared.operators.Comparison.TheVariants as comparison
+use Rattle.js_ops.specs.declared.operators.Operator.{Operator}
+use Rattle.js_ops.specs.declared.operators.Operator.TheVariants as operator
 use Rattle.js_ops.specs.declared.operators.BinaryOperator.{BinaryOperator}
 use Rattle.js_ops.specs.declared.operators.BinaryOperator.TheVariants as binary
 use Rattle.js_ops.specs.declared.operators.UnaryOperator.{UnaryOperator}
@@ -25,32 +27,33 @@ use Rattle.js_ops.specs.declared.operators.UnaryOperator.TheVariants as unary
 
 -- ---- which operator a node is
 
--- the operator of two operands that a kind of node is
-abbrev pub binary_of : Kind → Option BinaryOperator
-binary_of kind.Same = Some binary.Same
-binary_of kind.NotSame = Some binary.NotSame
-binary_of kind.Less = Some (binary.Compare comparison.Less)
-binary_of kind.More = Some (binary.Compare comparison.More)
-binary_of kind.AtMost = Some (binary.Compare comparison.AtMost)
-binary_of kind.AtLeast = Some (binary.Compare comparison.AtLeast)
-binary_of kind.Add = Some (binary.Calculate arithmetic.Add)
-binary_of kind.Sub = Some (binary.Calculate arithmetic.Sub)
-binary_of kind.Mul = Some (binary.Calculate arithmetic.Mul)
-binary_of kind.Div = Some (binary.Calculate arithmetic.Div)
-binary_of kind.Rem = Some (binary.Calculate arithmetic.Rem)
-binary_of _ = None
-
--- the operator of one operand that a kind of node is; `++` and `--` raise and lower it, on either side
-abbrev pub unary_of : Kind → Option UnaryOperator
-unary_of kind.Not = Some unary.Not
-unary_of kind.Minus = Some unary.Minus
-unary_of kind.Plus = Some unary.Plus
-unary_of kind.TypeOf = Some unary.TypeOf
-unary_of kind.PreInc = Some unary.Raise
-unary_of kind.PreDec = Some unary.Lower
-unary_of kind.PostInc = Some unary.Raise
-unary_of kind.PostDec = Some unary.Lower
-unary_of _ = None
+-- the operator that a kind of node is, and how it takes its operands
+abbrev pub operator_of : Kind → Option Operator
+operator_of kind.Same = Some (operator.Binary binary.Same)
+operator_of kind.NotSame = Some (operator.Binary binary.NotSame)
+operator_of kind.Less = Some (operator.Binary (binary.Compare comparison.Less))
+operator_of kind.More = Some (operator.Binary (binary.Compare comparison.More))
+operator_of kind.AtMost = Some (operator.Binary (binary.Compare comparison.AtMost))
+operator_of kind.AtLeast = Some (operator.Binary (binary.Compare comparison.AtLeast))
+operator_of kind.Add = Some (operator.Binary (binary.Calculate arithmetic.Add))
+operator_of kind.Sub = Some (operator.Binary (binary.Calculate arithmetic.Sub))
+operator_of kind.Mul = Some (operator.Binary (binary.Calculate arithmetic.Mul))
+operator_of kind.Div = Some (operator.Binary (binary.Calculate arithmetic.Div))
+operator_of kind.Rem = Some (operator.Binary (binary.Calculate arithmetic.Rem))
+operator_of kind.AssignAdd = Some (operator.Update (binary.Calculate arithmetic.Add))
+operator_of kind.AssignSub = Some (operator.Update (binary.Calculate arithmetic.Sub))
+operator_of kind.AssignMul = Some (operator.Update (binary.Calculate arithmetic.Mul))
+operator_of kind.AssignDiv = Some (operator.Update (binary.Calculate arithmetic.Div))
+operator_of kind.AssignRem = Some (operator.Update (binary.Calculate arithmetic.Rem))
+operator_of kind.Not = Some (operator.Unary unary.Not)
+operator_of kind.Minus = Some (operator.Unary unary.Minus)
+operator_of kind.Plus = Some (operator.Unary unary.Plus)
+operator_of kind.TypeOf = Some (operator.Unary unary.TypeOf)
+operator_of kind.PreInc = Some (operator.Step unary.Raise true)
+operator_of kind.PreDec = Some (operator.Step unary.Lower true)
+operator_of kind.PostInc = Some (operator.Step unary.Raise false)
+operator_of kind.PostDec = Some (operator.Step unary.Lower false)
+operator_of _ = None
 
 -- ---- arithmetic
 

@@ -23,5 +23,5 @@ pub use charged_heap::Fail;
 pub use error::{ScriptError, refuse, refuse_name};
 pub use making::throw;
 pub use operations::{binary, unary};
-pub use operators::{Arithmetic, BinaryOperator, Comparison, UnaryOperator};
+pub use operators::{Arithmetic, BinaryOperator, Comparison, Operator, UnaryOperator};
 pub use values::{same, truthy, type_of};

@@ -1,6 +1,6 @@
 //! The operators that give a value from values alone.
 ghost use Rattle.std.specs.Prelude.{◌≡◌};
-ghost use Rattle.js_ops.specs.Operators.{binary_of, unary_of};
+ghost use Rattle.js_ops.specs.Operators.{operator_of};
 
 use js_syntax::Kind;
 
@@ -50,41 +50,51 @@ pub enum UnaryOperator {
     Lower,
 }
 
-impl BinaryOperator {
-    /// The operator that a kind of node is; none for all other kinds.
-    pub fn of_kind(kind: Kind) -> Option<BinaryOperator>
-        ensures { result ≡ binary_of kind }
-    {
-        match kind {
-            Kind::Same => Some(BinaryOperator::Same),
-            Kind::NotSame => Some(BinaryOperator::NotSame),
-            Kind::Less => Some(BinaryOperator::Compare(Comparison::Less)),
-            Kind::More => Some(BinaryOperator::Compare(Comparison::More)),
-            Kind::AtMost => Some(BinaryOperator::Compare(Comparison::AtMost)),
-            Kind::AtLeast => Some(BinaryOperator::Compare(Comparison::AtLeast)),
-            Kind::Add => Some(BinaryOperator::Calculate(Arithmetic::Add)),
-            Kind::Sub => Some(BinaryOperator::Calculate(Arithmetic::Sub)),
-            Kind::Mul => Some(BinaryOperator::Calculate(Arithmetic::Mul)),
-            Kind::Div => Some(BinaryOperator::Calculate(Arithmetic::Div)),
-            Kind::Rem => Some(BinaryOperator::Calculate(Arithmetic::Rem)),
-            _ => None,
-        }
-    }
+/// An operator with the place of its operands: what a kind of node says of both.
+#[derive(Debug, Clone, Copy, PartialEq, Eq)]
+pub enum Operator {
+    /// Of two operands, whose values are both needed.
+    Binary(BinaryOperator),
+    /// Of one operand.
+    Unary(UnaryOperator),
+    /// `+=` and its kin: of the value of a place and the operand behind it.
+    Update(BinaryOperator),
+    /// `++` or `--` of a place; true where it stands before its operand.
+    Step(UnaryOperator, bool),
 }
 
-impl UnaryOperator {
+impl Operator {
     /// The operator that a kind of node is; none for all other kinds.
-    pub fn of_kind(kind: Kind) -> Option<UnaryOperator>
-        ensures { result ≡ unary_of kind }
+    pub fn of_kind(kind: Kind) -> Option<Operator>
+        ensures { result ≡ operator_of kind }
     {
-        match kind {
-            Kind::Not => Some(UnaryOperator::Not),
-            Kind::Minus => Some(UnaryOperator::Minus),
-            Kind::Plus => Some(UnaryOperator::Plus),
-            Kind::TypeOf => Some(UnaryOperator::TypeOf),
-            Kind::PreInc | Kind::PostInc => Some(UnaryOperator::Raise),
-            Kind::PreDec | Kind::PostDec => Some(UnaryOperator::Lower),
-            _ => None,
-        }
+        let operator = match kind {
+            Kind::Same => Operator::Binary(BinaryOperator::Same),
+            Kind::NotSame => Operator::Binary(BinaryOperator::NotSame),
+            Kind::Less => Operator::Binary(BinaryOperator::Compare(Comparison::Less)),
+            Kind::More => Operator::Binary(BinaryOperator::Compare(Comparison::More)),
+            Kind::AtMost => Operator::Binary(BinaryOperator::Compare(Comparison::AtMost)),
+            Kind::AtLeast => Operator::Binary(BinaryOperator::Compare(Comparison::AtLeast)),
+            Kind::Add => Operator::Binary(BinaryOperator::Calculate(Arithmetic::Add)),
+            Kind::Sub => Operator::Binary(BinaryOperator::Calculate(Arithmetic::Sub)),
+            Kind::Mul => Operator::Binary(BinaryOperator::Calculate(Arithmetic::Mul)),
+            Kind::Div => Operator::Binary(BinaryOperator::Calculate(Arithmetic::Div)),
+            Kind::Rem => Operator::Binary(BinaryOperator::Calculate(Arithmetic::Rem)),
+            Kind::AssignAdd => Operator::Update(BinaryOperator::Calculate(Arithmetic::Add)),
+            Kind::AssignSub => Operator::Update(BinaryOperator::Calculate(Arithmetic::Sub)),
+            Kind::AssignMul => Operator::Update(BinaryOperator::Calculate(Arithmetic::Mul)),
+            Kind::AssignDiv => Operator::Update(BinaryOperator::Calculate(Arithmetic::Div)),
+            Kind::AssignRem => Operator::Update(BinaryOperator::Calculate(Arithmetic::Rem)),
+            Kind::Not => Operator::Unary(UnaryOperator::Not),
+            Kind::Minus => Operator::Unary(UnaryOperator::Minus),
+            Kind::Plus => Operator::Unary(UnaryOperator::Plus),
+            Kind::TypeOf => Operator::Unary(UnaryOperator::TypeOf),
+            Kind::PreInc => Operator::Step(UnaryOperator::Raise, true),
+            Kind::PreDec => Operator::Step(UnaryOperator::Lower, true),
+            Kind::PostInc => Operator::Step(UnaryOperator::Raise, false),
+            Kind::PostDec => Operator::Step(UnaryOperator::Lower, false),
+            _ => return None,
+        };
+        Some(operator)
     }
 }

@@ -6,7 +6,7 @@ use crate::printed::write_value;
 use crate::values::{needs, units_of, value_of};
 use anyhow::Error;
 use charged_heap::{Heap, Item, index_of, price_of};
-use js_ops::{BinaryOperator, UnaryOperator, same, truthy, type_of};
+use js_ops::{Operator, same, truthy, type_of};
 use std::alloc::Global;
 use test_tables::{Table, Tally};
 
@@ -41,12 +41,10 @@ fn size_text(alloc: Global) -> Result<String, Error> {
     Ok(String::from_str(alloc, if small { "at most 96 bytes" } else { "more" })?)
 }
 
-/// The operator of two values that a node is, and the one of one value.
+/// The operator that a node is.
 fn node_text(alloc: Global, field: &str) -> Result<String, Error> {
     let kind = kind_named(field)?;
-    let two = BinaryOperator::of_kind(kind);
-    let one = UnaryOperator::of_kind(kind);
-    Ok(format!(in alloc; "{two:?}, {one:?}")?)
+    Ok(format!(in alloc; "{:?}", Operator::of_kind(kind))?)
 }
 
 /// A value as it is written, its type, whether it counts as true, and whether it is itself.

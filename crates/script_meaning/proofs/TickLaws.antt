@@ -13,8 +13,12 @@ use Rattle.js_ops.specs.Outcome.{binary_outcome, text_made, thrown, value_made, 
 use Rattle.js_members.specs.Arrays.{pushed}
 use Rattle.js_members.specs.Reads.{read_outcome}
 use Rattle.js_members.specs.Writes.{write_outcome}
+use Rattle.js_ops.specs.Operators.{operator_of}
+use Rattle.js_ops.specs.declared.operators.Operator.{Operator}
+use Rattle.js_ops.specs.declared.operators.Operator.TheVariants as operator
 use Rattle.js_ops.specs.declared.operators.BinaryOperator.{BinaryOperator}
 use Rattle.js_ops.specs.declared.operators.UnaryOperator.{UnaryOperator}
+use Rattle.js_ops.specs.declared.operators.UnaryOperator.TheVariants as unary
 use Rattle.js_trees.specs.Forms.{is_function_kind}
 use Rattle.js_trees.specs.Tree.{Tree, kid}
 use Rattle.js_trees.specs.declared.declaration.Declaration.{Declaration}
@@ -30,7 +34,7 @@ use Rattle.js_scopes.specs.Names.{name_outcome}
 use Rattle.js_scopes.specs.Scopes.{initialised}
 use Rattle.js_scopes.specs.Scripts.{script_declared}
 use Rattle.js_trees.specs.Declarations.{declarations}
-use Rattle.script_meaning.specs.Evaluates.{NESTING, call_run, script_run, callee_by, evaluated, node_by, statement_by, target_by, too_deep, value_by}
+use Rattle.script_meaning.specs.Evaluates.{NESTING, call_run, script_run, callee_by, evaluated, node_by, operation, statement_by, target_by, too_deep, value_by}
 use Rattle.script_meaning.specs.Expressions.{arguments_rule, array_rule, assign_rule, binary_rule, called_rule, closure_made, comma_rule, computed_for, condition_rule, elements_rule, function_by, function_rule, goes_right, index_rule, item_number, logical_rule, member_for, member_rule, object_rule, properties_rule, step_rule, typeof_by, typeof_rule, unary_rule, update_rule, void_rule}
 use Rattle.script_meaning.specs.Functions.{body_declares, body_rule, builtin_outcome, builtin_rule, call_rule, enter_rule, is_body, item_call, no_function, returned, this_of}
 use Rattle.script_meaning.specs.Handlers.{at_last, caught, finalized_by, handled_by, handler_by, kept, throw_rule, try_rule}
@@ -556,6 +560,16 @@ m-try b at t site s takes few =
 
 -- ---- forms
 
+m-operation : (b : State) (op : Option Operator) (scripts : ScriptList) (at : Inside) (kids : Trees) (site : Site) (s : State) → IsLawful at → Follows b s
+    → Keeps b (operation op scripts at kids site s)
+unfolding Keeps
+m-operation b (Some (operator.Binary op)) scripts at kids site s takes few = m-binary b op at kids site s takes few
+m-operation b (Some (operator.Unary unary.TypeOf)) scripts at kids site s takes few = m-typeof b scripts at kids site s takes few
+m-operation b (Some (operator.Unary op)) scripts at kids site s takes few = m-unary b op at kids site s takes few
+m-operation b (Some (operator.Update op)) scripts at kids site s takes few = m-update b op scripts at kids site s takes few
+m-operation b (Some (operator.Step op before)) scripts at kids site s takes few = m-step b op before scripts at kids site s takes few
+m-operation b None scripts at kids site s takes few = (few, tt)
+
 m-by-value : (b : State) (kind : Kind) (scripts : ScriptList) (at : Inside) (t : Tree) (site : Site) (s : State) → IsLawful at → Follows b s
     → Keeps b (value_by kind scripts at t site s)
 unfolding Keeps
@@ -570,11 +584,6 @@ m-by-value b kinds.Name scripts at t site s takes few =
     m-of b s (name_outcome (name_of t) site.scope site.global s.heap) few (o-name (name_of t) site.scope site.global s.heap)
 m-by-value b kinds.Comma scripts at t site s takes few = m-comma b at t.kids site s takes few
 m-by-value b kinds.Assign scripts at t site s takes few = m-assign b scripts at t.kids site s takes few
-m-by-value b kinds.AssignAdd scripts at t site s takes few = m-update b _ scripts at t.kids site s takes few
-m-by-value b kinds.AssignSub scripts at t site s takes few = m-update b _ scripts at t.kids site s takes few
-m-by-value b kinds.AssignMul scripts at t site s takes few = m-update b _ scripts at t.kids site s takes few
-m-by-value b kinds.AssignDiv scripts at t site s takes few = m-update b _ scripts at t.kids site s takes few
-m-by-value b kinds.AssignRem scripts at t site s takes few = m-update b _ scripts at t.kids site s takes few
 m-by-value b kinds.Arrow scripts at t site s takes few =
     m-of b s (closure_made t.head.number_of_node site site.receiver s.heap) few (o-closure t.head.number_of_node site site.receiver s.heap)
 m-by-value b kinds.FunctionExpr scripts at t site s takes few = m-function b t site s few
@@ -582,32 +591,13 @@ m-by-value b kinds.Cond scripts at t site s takes few = m-condition b at t.kids 
 m-by-value b kinds.Coalesce scripts at t site s takes few = m-logical b _ at t.kids site s takes few
 m-by-value b kinds.Or scripts at t site s takes few = m-logical b _ at t.kids site s takes few
 m-by-value b kinds.And scripts at t site s takes few = m-logical b _ at t.kids site s takes few
-m-by-value b kinds.Same scripts at t site s takes few = m-binary b _ at t.kids site s takes few
-m-by-value b kinds.NotSame scripts at t site s takes few = m-binary b _ at t.kids site s takes few
-m-by-value b kinds.Less scripts at t site s takes few = m-binary b _ at t.kids site s takes few
-m-by-value b kinds.More scripts at t site s takes few = m-binary b _ at t.kids site s takes few
-m-by-value b kinds.AtMost scripts at t site s takes few = m-binary b _ at t.kids site s takes few
-m-by-value b kinds.AtLeast scripts at t site s takes few = m-binary b _ at t.kids site s takes few
-m-by-value b kinds.Add scripts at t site s takes few = m-binary b _ at t.kids site s takes few
-m-by-value b kinds.Sub scripts at t site s takes few = m-binary b _ at t.kids site s takes few
-m-by-value b kinds.Mul scripts at t site s takes few = m-binary b _ at t.kids site s takes few
-m-by-value b kinds.Div scripts at t site s takes few = m-binary b _ at t.kids site s takes few
-m-by-value b kinds.Rem scripts at t site s takes few = m-binary b _ at t.kids site s takes few
-m-by-value b kinds.Not scripts at t site s takes few = m-unary b _ at t.kids site s takes few
-m-by-value b kinds.Minus scripts at t site s takes few = m-unary b _ at t.kids site s takes few
-m-by-value b kinds.Plus scripts at t site s takes few = m-unary b _ at t.kids site s takes few
-m-by-value b kinds.TypeOf scripts at t site s takes few = m-typeof b scripts at t.kids site s takes few
 m-by-value b kinds.Void scripts at t site s takes few = m-void b at t.kids site s takes few
-m-by-value b kinds.PreInc scripts at t site s takes few = m-step b _ true scripts at t.kids site s takes few
-m-by-value b kinds.PreDec scripts at t site s takes few = m-step b _ true scripts at t.kids site s takes few
-m-by-value b kinds.PostInc scripts at t site s takes few = m-step b _ false scripts at t.kids site s takes few
-m-by-value b kinds.PostDec scripts at t site s takes few = m-step b _ false scripts at t.kids site s takes few
 m-by-value b kinds.Member scripts at t site s takes few = m-member b role.Value at t site s takes few
 m-by-value b kinds.Index scripts at t site s takes few = m-index b role.Value at t.kids site s takes few
 m-by-value b kinds.Call scripts at t site s takes few = m-called b scripts at t.kids site s takes few
 m-by-value b kinds.Array scripts at t site s takes few = m-array b at t.kids site s takes few
 m-by-value b kinds.Object scripts at t site s takes few = m-object b at t site s takes few
-m-by-value b _ scripts at t site s takes few = (few, tt)
+m-by-value b kind scripts at t site s takes few = m-operation b (operator_of kind) scripts at t.kids site s takes few
 
 m-by-target : (b : State) (kind : Kind) (at : Inside) (t : Tree) (site : Site) (s : State) → IsLawful at → Follows b s → Keeps b (target_by kind at t site s)
 unfolding Keeps

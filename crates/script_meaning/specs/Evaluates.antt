@@ -1,6 +1,6 @@
 -- What a node does: a tick, and the rule of its form, one node deeper. And what a whole run does.
 -- ECMA-262, Runtime Semantics: Evaluation. Ticks and nesting are this project's own; docs/SCRIPTS.md, "Evaluation", docs/PRICES.md, "Ticks".
-use Rattle.std.specs.Prelude.{ℕ, zero, suc, ◌-◌, List, codes, None, true, false, Result, Ok, Err}
+use Rattle.std.specs.Prelude.{ℕ, zero, suc, ◌-◌, List, codes, Option, None, Some, true, false, Result, Ok, Err}
 use Rattle.ivm_text.specs.declared.copies.ErrorKind.TheVariants.{RangeError}
 use Rattle.charged_heap.specs.Store.{Store}
 use Rattle.charged_heap.specs.declared.values.Value.{Value}
@@ -8,11 +8,12 @@ use Rattle.charged_heap.specs.declared.values.Value.TheVariants as value
 use Rattle.js_syntax.specs.declared.kind.Kind.{Kind}
 use Rattle.js_syntax.specs.declared.kind.Kind.TheVariants as kinds
 use Rattle.js_ops.specs.Outcome.{text_made, thrown}
-use Rattle.js_ops.specs.declared.operators.Arithmetic.TheVariants as arithmetic
-use Rattle.js_ops.specs.declared.operators.Comparison.TheVariants as comparison
-use Rattle.js_ops.specs.declared.operators.BinaryOperator.TheVariants as binary
+use Rattle.js_ops.specs.Operators.{operator_of}
+use Rattle.js_ops.specs.declared.operators.Operator.{Operator}
+use Rattle.js_ops.specs.declared.operators.Operator.TheVariants as operator
 use Rattle.js_ops.specs.declared.operators.UnaryOperator.TheVariants as unary
 use Rattle.js_scopes.specs.Names.{name_outcome}
+use Rattle.js_syntax.specs.Tree.{Trees}
 use Rattle.js_trees.specs.Tree.{Tree, kid}
 use Rattle.js_trees.specs.Declarations.{declarations}
 use Rattle.js_scopes.specs.Scripts.{script_declared}
@@ -36,7 +37,16 @@ use Rattle.script_meaning.specs.declared.site.Site.{Site}
 
 -- ---- by form
 
--- an expression for its value; forms that are no expressions have none, and those that aren't built yet
+-- an operator by how it takes its operands; a form that is no operator either is empty
+abbrev pub operation : Option Operator → ScriptList → Inside → Trees → Site → State → Out
+operation (Some (operator.Binary op)) scripts at kids site s = binary_rule op at kids site s
+operation (Some (operator.Unary unary.TypeOf)) scripts at kids site s = typeof_rule scripts at kids site s
+operation (Some (operator.Unary op)) scripts at kids site s = unary_rule op at kids site s
+operation (Some (operator.Update op)) scripts at kids site s = update_rule op scripts at kids site s
+operation (Some (operator.Step op before)) scripts at kids site s = step_rule op before scripts at kids site s
+operation None scripts at kids site s = is_empty s
+
+-- an expression for its value; the other forms are operators, or no expressions, or not built yet
 abbrev pub value_by : Kind → ScriptList → Inside → Tree → Site → State → Out
 value_by kinds.Num scripts at t site s = gives (value.Num t.head.value) s
 value_by kinds.Text scripts at t site s = of_heap s (text_made (name_of t) s.heap)
@@ -48,43 +58,19 @@ value_by kinds.This scripts at t site s = gives site.receiver s
 value_by kinds.Name scripts at t site s = of_heap s (name_outcome (name_of t) site.scope site.global s.heap)
 value_by kinds.Comma scripts at t site s = comma_rule at t.kids site s
 value_by kinds.Assign scripts at t site s = assign_rule scripts at t.kids site s
-value_by kinds.AssignAdd scripts at t site s = update_rule (binary.Calculate arithmetic.Add) scripts at t.kids site s
-value_by kinds.AssignSub scripts at t site s = update_rule (binary.Calculate arithmetic.Sub) scripts at t.kids site s
-value_by kinds.AssignMul scripts at t site s = update_rule (binary.Calculate arithmetic.Mul) scripts at t.kids site s
-value_by kinds.AssignDiv scripts at t site s = update_rule (binary.Calculate arithmetic.Div) scripts at t.kids site s
-value_by kinds.AssignRem scripts at t site s = update_rule (binary.Calculate arithmetic.Rem) scripts at t.kids site s
 value_by kinds.Arrow scripts at t site s = of_heap s (closure_made t.head.number_of_node site site.receiver s.heap)
 value_by kinds.FunctionExpr scripts at t site s = function_rule t site s
 value_by kinds.Cond scripts at t site s = condition_rule at t.kids site s
 value_by kinds.Coalesce scripts at t site s = logical_rule kinds.Coalesce at t.kids site s
 value_by kinds.Or scripts at t site s = logical_rule kinds.Or at t.kids site s
 value_by kinds.And scripts at t site s = logical_rule kinds.And at t.kids site s
-value_by kinds.Same scripts at t site s = binary_rule binary.Same at t.kids site s
-value_by kinds.NotSame scripts at t site s = binary_rule binary.NotSame at t.kids site s
-value_by kinds.Less scripts at t site s = binary_rule (binary.Compare comparison.Less) at t.kids site s
-value_by kinds.More scripts at t site s = binary_rule (binary.Compare comparison.More) at t.kids site s
-value_by kinds.AtMost scripts at t site s = binary_rule (binary.Compare comparison.AtMost) at t.kids site s
-value_by kinds.AtLeast scripts at t site s = binary_rule (binary.Compare comparison.AtLeast) at t.kids site s
-value_by kinds.Add scripts at t site s = binary_rule (binary.Calculate arithmetic.Add) at t.kids site s
-value_by kinds.Sub scripts at t site s = binary_rule (binary.Calculate arithmetic.Sub) at t.kids site s
-value_by kinds.Mul scripts at t site s = binary_rule (binary.Calculate arithmetic.Mul) at t.kids site s
-value_by kinds.Div scripts at t site s = binary_rule (binary.Calculate arithmetic.Div) at t.kids site s
-value_by kinds.Rem scripts at t site s = binary_rule (binary.Calculate arithmetic.Rem) at t.kids site s
-value_by kinds.Not scripts at t site s = unary_rule unary.Not at t.kids site s
-value_by kinds.Minus scripts at t site s = unary_rule unary.Minus at t.kids site s
-value_by kinds.Plus scripts at t site s = unary_rule unary.Plus at t.kids site s
-value_by kinds.TypeOf scripts at t site s = typeof_rule scripts at t.kids site s
 value_by kinds.Void scripts at t site s = void_rule at t.kids site s
-value_by kinds.PreInc scripts at t site s = step_rule unary.Raise true scripts at t.kids site s
-value_by kinds.PreDec scripts at t site s = step_rule unary.Lower true scripts at t.kids site s
-value_by kinds.PostInc scripts at t site s = step_rule unary.Raise false scripts at t.kids site s
-value_by kinds.PostDec scripts at t site s = step_rule unary.Lower false scripts at t.kids site s
 value_by kinds.Member scripts at t site s = member_rule role.Value at t site s
 value_by kinds.Index scripts at t site s = index_rule role.Value at t.kids site s
 value_by kinds.Call scripts at t site s = called_rule scripts at t.kids site s
 value_by kinds.Array scripts at t site s = array_rule at t.kids site s
 value_by kinds.Object scripts at t site s = object_rule at t site s
-value_by _ scripts at t site s = is_empty s
+value_by kind scripts at t site s = operation (operator_of kind) scripts at t.kids site s
 
 -- a target for its place; no other form is one
 abbrev pub target_by : Kind → Inside → Tree → Site → State → Out

@@ -1,37 +1,11 @@
 -- Groups of forms by what comes first in them, and groups of frames by the end that they wait for. No caller needs this.
 -- This project's own: the ways by which the steps choose; docs/SCRIPTS.md, "Evaluation".
-use Rattle.std.specs.Prelude.{Option, Some, None}
 use Rattle.js_syntax.specs.declared.kind.Kind.{Kind}
 use Rattle.js_syntax.specs.declared.kind.Kind.TheVariants as kinds
-use Rattle.js_ops.specs.declared.operators.Arithmetic.TheVariants as arithmetic
-use Rattle.js_ops.specs.declared.operators.BinaryOperator.{BinaryOperator}
-use Rattle.js_ops.specs.declared.operators.BinaryOperator.TheVariants as binary
 use Rattle.script_steps.specs.declared.frame.Frame.{Frame}
 use Rattle.script_steps.specs.declared.frame.Frame.TheVariants as frame
 
 -- ---- forms
-
--- the operator with which `+=` and its kin calculate
-abbrev pub assignment_of : Kind → Option BinaryOperator
-assignment_of kinds.AssignAdd = Some (binary.Calculate arithmetic.Add)
-assignment_of kinds.AssignSub = Some (binary.Calculate arithmetic.Sub)
-assignment_of kinds.AssignMul = Some (binary.Calculate arithmetic.Mul)
-assignment_of kinds.AssignDiv = Some (binary.Calculate arithmetic.Div)
-assignment_of kinds.AssignRem = Some (binary.Calculate arithmetic.Rem)
-assignment_of _ = None
-
--- an operator of one operand, `++` and `--` among them
-abbrev pub IsOneOperand : Kind → Type 0
-IsOneOperand kinds.Not = Unit {0}
-IsOneOperand kinds.Minus = Unit {0}
-IsOneOperand kinds.Plus = Unit {0}
-IsOneOperand kinds.TypeOf = Unit {0}
-IsOneOperand kinds.Void = Unit {0}
-IsOneOperand kinds.PreInc = Unit {0}
-IsOneOperand kinds.PreDec = Unit {0}
-IsOneOperand kinds.PostInc = Unit {0}
-IsOneOperand kinds.PostDec = Unit {0}
-IsOneOperand _ = ⊥
 
 -- an expression that makes and reads nothing before a node inside it was evaluated, or a form that is no expression
 abbrev pub BeginsInside : Kind → Type 0

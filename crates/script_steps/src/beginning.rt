@@ -1,12 +1,12 @@
 //! The first step of each form.
-ghost use Rattle.std.specs.Prelude.{◌≡◌, Some, None, Option};
+ghost use Rattle.std.specs.Prelude.{◌≡◌, Some};
 ghost use Rattle.charged_heap.specs.Closed.{IsClosed};
 ghost use Rattle.charged_heap.specs.Growth.{Grows};
 ghost use Rattle.charged_heap.specs.Store.{Store};
-ghost use Rattle.script_meaning.specs.Evaluates.{value_by, callee_by, statement_by, node_by};
+ghost use Rattle.script_meaning.specs.Evaluates.{operation, value_by, callee_by, statement_by, node_by};
 ghost use Rattle.script_meaning.specs.Places.{form_at};
 ghost use Rattle.script_steps.specs.After.{Steps, Turns, Waits};
-ghost use Rattle.script_steps.specs.Groups.{BeginsInside, IsOneOperand, assignment_of};
+ghost use Rattle.script_steps.specs.Groups.{BeginsInside};
 ghost use Rattle.script_steps.specs.Sound.{IsThere, IsSoundSite, IsSoundStep};
 
 use crate::assignments::{begin_assign, begin_step, begin_update};
@@ -26,44 +26,24 @@ use crate::statements::{begin_block, begin_if, begin_return, declare_from, list_
 use crate::targets::begin_target;
 use crate::{Frame, Inner, Step};
 use charged_heap::Heap;
-use js_ops::{Arithmetic, BinaryOperator, UnaryOperator};
+use js_ops::{Operator, UnaryOperator};
 use js_syntax::{Kind, Scripts};
 use script_meaning::{Abrupt, Ended, Role, Site};
 use std::alloc::Global;
 
 // ---- expressions
 
-/// The operator with which `+=` and its kin calculate; none for all other kinds.
-fn assignment_of(kind: Kind) -> Option<BinaryOperator>
-    ensures { result ≡ assignment_of kind }
-{
-    match kind {
-        Kind::AssignAdd => Some(BinaryOperator::Calculate(Arithmetic::Add)),
-        Kind::AssignSub => Some(BinaryOperator::Calculate(Arithmetic::Sub)),
-        Kind::AssignMul => Some(BinaryOperator::Calculate(Arithmetic::Mul)),
-        Kind::AssignDiv => Some(BinaryOperator::Calculate(Arithmetic::Div)),
-        Kind::AssignRem => Some(BinaryOperator::Calculate(Arithmetic::Rem)),
-        _ => None,
-    }
-}
-
-/// Begins an operator of one operand, `++` and `--` among them.
-fn begin_operand(scripts: &Scripts, kind: Kind, node: u32, site: Site) -> Step
-    requires { IsOneOperand kind }
-    ensures step { Waits scripts.now result (λ at s. value_by kind scripts.now at (form_at scripts.now site.script node) site s) }
+/// Begins an operator by how it takes its operands.
+fn begin_operator(scripts: &Scripts, operator: Operator, node: u32, site: Site) -> Step
+    ensures step { Waits scripts.now result (λ at s. operation (Some operator) scripts.now at ((form_at scripts.now site.script node).kids) site s) }
     ensures sound { (s : Store) → IsSoundSite s site → IsSoundStep s result }
 {
-    match kind {
-        Kind::Not => begin_unary(scripts, UnaryOperator::Not, node, site),
-        Kind::Minus => begin_unary(scripts, UnaryOperator::Minus, node, site),
-        Kind::Plus => begin_unary(scripts, UnaryOperator::Plus, node, site),
-        Kind::TypeOf => begin_typeof(scripts, node, site),
-        Kind::Void => begin_void(scripts, node, site),
-        Kind::PreInc => begin_step(scripts, UnaryOperator::Raise, true, node, site),
-        Kind::PreDec => begin_step(scripts, UnaryOperator::Lower, true, node, site),
-        Kind::PostInc => begin_step(scripts, UnaryOperator::Raise, false, node, site),
-        Kind::PostDec => begin_step(scripts, UnaryOperator::Lower, false, node, site),
-        _ => unreachable!(),
+    match operator {
+        Operator::Binary(operator) => begin_binary(scripts, operator, node, site),
+        Operator::Unary(UnaryOperator::TypeOf) => begin_typeof(scripts, node, site),
+        Operator::Unary(operator) => begin_unary(scripts, operator, node, site),
+        Operator::Update(operator) => begin_update(scripts, operator, node, site),
+        Operator::Step(operator, before) => begin_step(scripts, operator, before, node, site),
     }
 }
 
@@ -74,26 +54,15 @@ fn begin_inside(scripts: &Scripts, kind: Kind, node: u32, site: Site) -> Step
     ensures step { Waits scripts.now result (λ at s. value_by kind scripts.now at (form_at scripts.now site.script node) site s) }
     ensures sound { (s : Store) → IsSoundSite s site → IsSoundStep s result }
 {
-    if let Some(operator) = BinaryOperator::of_kind(kind) {
-        return begin_binary(scripts, operator, node, site);
-    }
-    if let Some(operator) = assignment_of(kind) {
-        return begin_update(scripts, operator, node, site);
+    if let Some(operator) = Operator::of_kind(kind) {
+        return begin_operator(scripts, operator, node, site);
     }
     match kind {
         Kind::Comma => begin_comma(scripts, node, site),
         Kind::Assign => begin_assign(scripts, node, site),
         Kind::Cond => begin_condition(scripts, node, site),
         Kind::Coalesce | Kind::Or | Kind::And => begin_logical(scripts, kind, node, site),
-        Kind::Not
-        | Kind::Minus
-        | Kind::Plus
-        | Kind::TypeOf
-        | Kind::Void
-        | Kind::PreInc
-        | Kind::PreDec
-        | Kind::PostInc
-        | Kind::PostDec => begin_operand(scripts, kind, node, site),
+        Kind::Void => begin_void(scripts, node, site),
         Kind::Member => begin_member(scripts, Role::Value, node, site),
         Kind::Index => begin_index(scripts, Role::Value, node, site),
         Kind::Call => begin_call(scripts, node, site),

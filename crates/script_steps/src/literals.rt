@@ -97,18 +97,6 @@ pub(crate) fn element(
     }
 }
 
-/// Makes an array without elements, and answers its number.
-fn make_array(alloc: Global, heap: &mut Heap) -> Result<u32, Fail>
-    ensures meets { Meets result heap.new (item_made (Item.Array []) heap.old) }
-
-    ensures grown { Grows heap.old heap.new }
-    ensures closed { IsClosed heap.old → IsClosed heap.new }
-    ensures array { IfOk result (IsAt IsArray heap.new) }
-    ensures thrown { IfErr result (IsSoundFail heap.new) }
-{
-    make(heap, Item::Array(Values::new(alloc)))
-}
-
 /// Begins an array: it is made before its first element is evaluated.
 #[tactic(auto, unfolding(script_meaning::specs::Expressions::array_rule), using(crate::proofs::CallLemmas::made_value, crate::proofs::CallLemmas::made_refused, crate::proofs::Growing::site_grows))]
 pub(crate) fn begin_array(
@@ -126,7 +114,7 @@ pub(crate) fn begin_array(
     ensures closed { IsClosed heap.old → IsClosed heap.new }
     ensures sound { IsSoundStep heap.new result }
 {
-    match make_array(alloc, heap) {
+    match make(heap, Item::Array(Values::new(alloc))) {
         Ok(array) => elements_from(scripts, node, 0, array, site),
         Err(fail) => Step::Ended(Err(abrupt_of(fail))),
     }
