@@ -18,7 +18,7 @@ use host_syntax::{HostScript, What};
 use ivm_text::{CloneWhole, Items, NoMemory};
 use std::alloc::{AllocError, Global};
 use std::marker::Model;
-use task_history::{Act, Event, History, Out, Own, Settlement, Task, TaskKind};
+use task_history::{Act, Event, History, Out, Own, Settlement, Shared, Task, TaskKind};
 
 /// After so many numbers a call draws none.
 const MOST_CALLS: u32 = 100_000;
@@ -223,7 +223,7 @@ impl Host {
             } => {
                 let kind = TaskKind::Eval {
                     context: context_in(self.held_at(*context)),
-                    text: text.clone_whole(self.alloc)?,
+                    text: Shared::new(self.alloc, text.clone_whole(self.alloc)?)?,
                     want: *want,
                 };
                 Ok(Some(self.task(*budget, kind)))

@@ -4,7 +4,7 @@ ghost use Rattle.isolate_meaning.specs.Does.{entry_of};
 
 use ivm_text::{CloneWhole, Items, NoMemory};
 use std::alloc::Global;
-use task_history::{Entry, Out, Outcome, Task};
+use task_history::{Entry, Out, Outcome, Shared, Task};
 
 /// The entry of a task with this outcome, its ticks and the cells that are charged: its one out is the reply.
 pub(crate) fn entry_of(
@@ -16,6 +16,7 @@ pub(crate) fn entry_of(
 ) -> Result<Entry, NoMemory>
     ensures { IfOk result (λ entry. entry ≡ entry_of task outcome ticks cells) }
 {
+    let outcome = Shared::new(alloc, outcome)?;
     let reply = Out::Reply {
         call: task.call,
         outcome: outcome.clone_whole(alloc)?,

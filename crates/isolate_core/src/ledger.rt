@@ -4,10 +4,10 @@ ghost use Rattle.std.specs.Prelude.{◌≡◌, true, [], ◌∷◌, ◌++◌, If
 ghost use Rattle.isolate_meaning.specs.Does.{stop_entry};
 ghost use Rattle.isolate_core.specs.Written.{closed};
 
-use ivm_text::{Items, NoMemory};
+use ivm_text::{CloneWhole, Items, NoMemory};
 use std::alloc::Global;
 use std::marker::Model;
-use task_history::{By, Entry, Journal, Out, Outcome};
+use task_history::{By, Entry, Journal, Out, Outcome, Shared};
 
 /// The entries of a cell, fewer than 2^32, with all that a stop by the host needs kept ready: its entry and a
 /// place for it. So the stop takes no memory.
@@ -87,13 +87,14 @@ fn stop_entry(alloc: Global) -> Result<Entry, NoMemory>
     ensures { IfOk result (λ entry. entry ≡ stop_entry 0) }
 {
     let mut outs = Items::new(alloc);
+    let outcome = Shared::new(alloc, Outcome::Disposed(By::Host))?;
     outs.push(Out::Reply {
         call: None,
-        outcome: Outcome::Disposed(By::Host),
+        outcome: outcome.clone_whole(alloc)?,
     })?;
     Ok(Entry {
         task: None,
-        outcome: Outcome::Disposed(By::Host),
+        outcome,
         ticks: 0,
         cells: 0,
         outs,

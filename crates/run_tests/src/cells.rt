@@ -6,7 +6,7 @@ use anyhow::{Error, bail};
 use isolate_core::Cell;
 use ivm_text::{Items, Want};
 use std::alloc::Global;
-use task_history::{Entry, Out, Task, TaskKind};
+use task_history::{Entry, Out, Shared, Task, TaskKind};
 use test_tables::{Row, Table, Tally, bytes_of};
 
 /// Takes the turns of a table, whose first row gives the limit in cells, and then tries its journal.
@@ -99,7 +99,7 @@ fn task_of(alloc: Global, row: &Row) -> Result<Task, Error> {
         budget: row.field(2)?.parse::<u32>()?,
         kind: TaskKind::Eval {
             context: 0,
-            text,
+            text: Shared::new(alloc, text)?,
             want: Want::Value,
         },
     })

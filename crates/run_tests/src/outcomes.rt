@@ -5,7 +5,7 @@ use host_syntax::{Command, HostScript, What};
 use ivm_report::report;
 use ivm_text::{Copy, CopyNode, Handle, Items, Leaf, Passed, TypeOf, Uncopyable, Units, Want};
 use std::alloc::Global;
-use task_history::{By, Entry, Event, Outcome, Own, Record, Settlement};
+use task_history::{By, Entry, Event, Outcome, Own, Record, Settlement, Shared};
 use test_tables::{Row, Table, Tally};
 
 /// Reports the outcome of each row, whose fields are what was wanted, the outcome, and what is told of it.
@@ -52,7 +52,7 @@ fn record_of(alloc: Global, row: &Row) -> Result<Record, Error> {
             let mut journal = Items::new(alloc);
             journal.push(Entry {
                 task: None,
-                outcome: outcome_of(alloc, row)?,
+                outcome: Shared::new(alloc, outcome_of(alloc, row)?)?,
                 ticks: 9,
                 cells: 8,
                 outs: Items::new(alloc),

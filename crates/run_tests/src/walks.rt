@@ -8,7 +8,7 @@ use host_meaning::Move;
 use host_script::read_host;
 use ivm_text::{Copy, Overrun, Passed};
 use std::alloc::Global;
-use task_history::{Act, By, Event, History, Out, Outcome, Settlement, Task, TaskKind};
+use task_history::{Act, By, Event, History, Out, Outcome, Settlement, Shared, Task, TaskKind};
 use test_tables::{Row, Table, Tally};
 
 /// Makes the host of the lines of a table, takes its turns, and then tries its history.
@@ -78,7 +78,7 @@ fn receive(rt: &HostRuntime, tally: &mut Tally, host: &mut Host, row: &Row) -> R
         "no call" => None,
         number => Some(number.parse::<u32>()?),
     };
-    let outcome = outcome_of(row)?;
+    let outcome = Shared::new(rt.alloc(), outcome_of(row)?)?;
     if isolate >= host.script().isolates.len() {
         bail!("{}: no isolate {isolate}", row.place);
     }

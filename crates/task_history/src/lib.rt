@@ -8,8 +8,10 @@
 
 mod outcome;
 mod record;
+mod shared;
 mod task;
 
 pub use outcome::{By, Copies, Out, Outcome, Outs};
 pub use record::{Entry, Event, History, Journal, Journals, Record, Settlement};
+pub use shared::Shared;
 pub use task::{Act, Answer, Own, PassedList, Task, TaskKind};

@@ -1,6 +1,6 @@
 //! What comes of a task, and what an isolate sends to its host.
 
-use crate::Act;
+use crate::{Act, Shared};
 use ivm_text::{CloneWhole, Copy, Handle, Items, Overrun, Passed, Refusal, Uncopyable};
 use std::alloc::{AllocError, Global};
 
@@ -69,7 +69,7 @@ pub enum Out {
     /// The outcome of a task, told once at its end.
     Reply {
         call: Option<u32>,
-        outcome: Outcome,
+        outcome: Shared<Outcome>,
     },
 }
 

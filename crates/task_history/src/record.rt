@@ -1,7 +1,7 @@
 //! What is kept of a run: the host's history and each isolate's journal.
 ghost use Rattle.std.specs.Prelude.{◌≡◌, []};
 
-use crate::{Out, Outcome, Outs, Own, Task};
+use crate::{Out, Outcome, Outs, Own, Shared, Task};
 use ivm_text::{CloneWhole, Items};
 use std::alloc::{AllocError, Global};
 
@@ -10,7 +10,7 @@ use std::alloc::{AllocError, Global};
 #[derive(Debug, Drop)]
 pub struct Entry {
     pub task: Option<Task>,
-    pub outcome: Outcome,
+    pub outcome: Shared<Outcome>,
     /// The ticks that it took.
     pub ticks: u32,
     /// The cells that are charged after it.

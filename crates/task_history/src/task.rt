@@ -1,6 +1,6 @@
 //! A task, and what is asked of an isolate by it.
 
-use crate::Outcome;
+use crate::{Outcome, Shared};
 use ivm_text::{Bytes, CloneWhole, Items, Passed, Units, Want};
 use std::alloc::{AllocError, Global};
 
@@ -50,7 +50,7 @@ pub enum TaskKind {
     /// Makes a context (isolated-vm: `isolate.createContext`).
     Context,
     /// Builds a text (isolated-vm: `isolate.compileScript`).
-    Compile(Bytes),
+    Compile(Shared<Bytes>),
     /// Runs a script in a context (isolated-vm: `script.run`).
     Run {
         script: u32,
@@ -60,7 +60,7 @@ pub enum TaskKind {
     /// Builds a text and runs it in a context (isolated-vm: `context.eval`).
     Eval {
         context: u32,
-        text: Bytes,
+        text: Shared<Bytes>,
         want: Want,
     },
     /// Works on the value of a row.

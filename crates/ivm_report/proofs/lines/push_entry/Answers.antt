@@ -22,5 +22,6 @@ returns c =
     subst (λ t. OnOk c.push_outcome.result (c.push_outcome.new.text.items ≡ c.args.text.now.items ++ t))
     (sym (entry_said c.args.want c.args.ledger.now.kept.now.isolates c.args.isolate c.args.place c.in-Some.journal.now c.in-Some-get.entry.now c.args.ledger.now.first_disposals.items c.index.result.now
     (sym c.get.ensures.value ∙ ap option_copied c.in-Some.is) (sym c.get-2.ensures.value ∙ ap option_copied c.in-Some-get.is) c.in-Some.ensures.within c.requires.tables.1.firsts_are c.index.ensures
-    ∙ ap (λ b. outcome_text c.args.want b c.in-Some-get.entry.now.ticks c.in-Some-get.entry.now.outcome) (sym c.is_at-first.ensures)))
+    ∙ ap (λ b. outcome_text c.args.want b c.in-Some-get.entry.now.ticks c.in-Some-get.entry.now.outcome) (sym c.is_at-first.ensures)
+    ∙ ap (λ outcome. outcome_text c.args.want c.is_at-first.result c.in-Some-get.entry.now.ticks outcome) (sym c.deref.ensures)))
     c.push_outcome.ensures
