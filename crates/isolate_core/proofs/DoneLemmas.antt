@@ -1,5 +1,5 @@
 -- How a task goes on after a call over the heap, and which script is the last.
-use Rattle.std.proofs.Common.{◌≡◌, ℕ, ◌+◌, ◌-◌, List, [], ◌∷◌, ◌++◌, length, Ok, Err, refl, ap, arith, length-append, subst, sym, ◌∙◌}
+use Rattle.std.proofs.Common.{◌≡◌, ℕ, ◌+◌, ◌-◌, List, [], ◌∷◌, ◌++◌, length, Option, Some, Ok, Err, refl, ap, arith, length-append, subst, sym, ◌∙◌}
 use Rattle.std.specs.Prelude.{slice_index_or}
 use Rattle.std.proofs.lemmas.List.{get_or-append-add}
 use Rattle.charged_heap.specs.Store.{Store}
@@ -13,11 +13,11 @@ use Rattle.isolate_meaning.specs.Tasks.{Done, going_on, with_store}
 use Rattle.isolate_core.specs.Done.{refused_done}
 
 -- it goes on with what was given
-pub given : {A : Type 0} (contents : Contents) (ends : Ends A) (a : A) (s : Store) (go : A → Store → Done) → ends ≡ (Ok a, s) → going_on contents ends go ≡ go a s
+pub given : {A : Type 0} (contents : Contents) (ends : Ends A) (a : A) (s : Store) (go : A → Store → Option Done) → ends ≡ (Ok a, s) → going_on contents ends go ≡ go a s
 given {A} contents ends a s go is = ap (λ (e : Ends A). going_on contents e go) is
 
 -- or it is refused
-pub refusal : {A : Type 0} (contents : Contents) (ends : Ends A) (failed : Fail) (s : Store) (go : A → Store → Done) → ends ≡ (Err failed, s) → going_on contents ends go ≡ refused_done (with_store contents s) failed
+pub refusal : {A : Type 0} (contents : Contents) (ends : Ends A) (failed : Fail) (s : Store) (go : A → Store → Option Done) → ends ≡ (Err failed, s) → going_on contents ends go ≡ refused_done (with_store contents s) failed
 refusal {A} contents ends failed s go is = ap (λ (e : Ends A). going_on contents e go) is ∙ by failed
   where
     by : (one : Fail) → going_on contents (Err one, s) go ≡ refused_done (with_store contents s) one

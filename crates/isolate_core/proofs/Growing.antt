@@ -77,13 +77,10 @@ context_there contents n closed within = closed.contexts n no_context within
 pub row_there : (contents : Contents) (row : ℕ) → AreClosed contents → row < length contents.rows → IsAt IsRow contents.store (slice_index_or contents.rows row 0)
 row_there contents row closed within = closed.rows row 0 within
 
-value_in_row : (s : Store) (n : ℕ) (one : Item) → IsSound s n one → IsSoundValue s (row_value_in one)
-value_in_row s n (item.Row v) sound = sound
-value_in_row s n _ sound = tt
-
--- what a row names is a value that a script can hold
-pub row_sound : (s : Store) (n : ℕ) → IsClosedStore s → IsAt IsRow s n → IsSoundValue s (row_value_in (item_at s n))
-row_sound s n closed at = value_in_row s n (item_at s n) (closed.sound n at.there)
+-- what a row holds is a value that a script can hold
+pub row_sound : (s : Store) (n : ℕ) (v : Value) → IsClosedStore s → IsAt IsRow s n → item_at s n ≡ item.Row v → IsSoundValue s v
+row_sound s n v closed at is =
+    let sound : IsSound s n (item.Row v) = subst (IsSound s n) is (closed.sound n at.there) in sound
 
 property_of_item : (s : Store) (n : ℕ) (one : Item) (key : List ℕ) → IsSound s n one → IfSome (value_at (properties one) key) (IsSoundValue s)
 property_of_item s n (item.Plain props) key sound = All-lookup (IsSoundValue s) (is_key key) props sound
@@ -101,20 +98,23 @@ pub message_there : (s : Store) (n : ℕ) (sort : ErrorKind) (message : ℕ) →
 message_there s n sort message closed within is =
     let sound : IsSound s n (item.Error sort message) = subst (IsSound s n) is (closed.sound n within) in sound.there
 
-leaf_sound : (s : Store) (root : Leaf) → IsSoundValue s (value_of root)
+leaf_sound : (s : Store) (root : Leaf) → IfSome (value_of root) (IsSoundValue s)
 leaf_sound s leaf.Undefined = tt
 leaf_sound s leaf.Null = tt
 leaf_sound s (leaf.Bool b) = tt
 leaf_sound s (leaf.Num n) = tt
 leaf_sound s (leaf.Node n) = tt
 
+passes_sound : (s : Store) (p : Passed) → IfSome (passed_value p) (IsSoundValue s)
+passes_sound s (passed.Copy copy) = leaf_sound s copy.root
+passes_sound s (passed.External copy) = tt
+passes_sound s (passed.Ref handle) = tt
+passes_sound s (passed.Deref handle) = tt
+passes_sound s (passed.Callback number) = tt
+
 -- what passes into an isolate is a primitive there
-pub passed_sound : (s : Store) (p : Passed) → IsSoundValue s (passed_value p)
-passed_sound s (passed.Copy copy) = leaf_sound s copy.root
-passed_sound s (passed.External copy) = leaf_sound s copy.root
-passed_sound s (passed.Ref handle) = tt
-passed_sound s (passed.Deref handle) = tt
-passed_sound s (passed.Callback number) = tt
+pub passed_sound : (s : Store) (p : Passed) (v : Value) → passed_value p ≡ Some v → IsSoundValue s v
+passed_sound s p v is = subst (λ o. IfSome o (IsSoundValue s)) is (passes_sound s p)
 
 -- ---- one call after another
 

@@ -1,5 +1,6 @@
 -- What came of a task, as a cell holds it.
 -- This project's own; docs/MAP.md, "One isolate".
+use Rattle.std.specs.Prelude.{Option, None, Some}
 use Rattle.charged_heap.specs.declared.fault.Fail.{Fail}
 use Rattle.charged_heap.specs.declared.fault.Fail.TheVariants as fail
 use Rattle.task_history.specs.declared.outcome.By.TheVariants.{Memory}
@@ -20,8 +21,8 @@ done_of (Over told ticks cells) = record {
   cells = cells;
 }
 
--- what comes of a task whose call over the heap gave nothing
-abbrev pub refused_done : Contents → Fail → Done
-refused_done contents (fail.Throw v) = lives contents (thrown contents.store v) 0
-refused_done contents (fail.Over told) = over contents.store told 0
-refused_done contents fail.NoMemory = lives contents outcome.Done 0
+-- what comes of a task whose call over the heap gave nothing; nothing comes of it for want of memory
+abbrev pub refused_done : Contents → Fail → Option Done
+refused_done contents (fail.Throw v) = Some (lives contents (thrown contents.store v) 0)
+refused_done contents (fail.Over told) = Some (over contents.store told 0)
+refused_done contents fail.NoMemory = None

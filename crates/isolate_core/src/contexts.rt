@@ -1,5 +1,5 @@
 //! The contexts of a live isolate, and how one is made.
-ghost use Rattle.std.specs.Prelude.{◌≡◌, IfErr, IfOk};
+ghost use Rattle.std.specs.Prelude.{◌≡◌, IfErr, IfOk, Some};
 ghost use Rattle.charged_heap.specs.Closed.{IsClosed as IsClosedStore};
 ghost use Rattle.charged_heap.specs.Ends.{IsSoundFail, Meets};
 ghost use Rattle.charged_heap.specs.Growth.{Grows};
@@ -110,7 +110,7 @@ fn add_context(mut contents: Contents, context: Context, row: u32) -> Result<Con
 pub(crate) fn make_context(alloc: Global, mut contents: Contents) -> Result<Done, NoMemory>
     requires { AreClosed (contents_of contents) }
 
-    ensures done { IfOk result (λ done. done_of done ≡ context_made (contents_of contents)) }
+    ensures done { IfOk result (λ done. context_made (contents_of contents) ≡ Some (done_of done)) }
     ensures closed { IfOk result (λ done. IsClosed (done_of done).state) }
 {
     let outcome = Outcome::Context {

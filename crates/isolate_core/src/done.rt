@@ -1,5 +1,5 @@
 //! What came of a task.
-ghost use Rattle.std.specs.Prelude.{◌≡◌, ◌≢◌, IfOk};
+ghost use Rattle.std.specs.Prelude.{◌≡◌, ◌≢◌, IfOk, Some};
 ghost use Rattle.isolate_meaning.specs.State.{AreClosed, IsClosed};
 ghost use Rattle.isolate_core.specs.Contents.{contents_of};
 ghost use Rattle.isolate_core.specs.Done.{done_of, refused_done};
@@ -35,7 +35,7 @@ pub(crate) fn refused(alloc: Global, contents: Contents, fail: Fail) -> Result<D
     requires closed { AreClosed (contents_of contents) }
     requires thrown { IsSoundFail contents.heap fail }
 
-    ensures done { IfOk result (λ done. done_of done ≡ refused_done (contents_of contents) fail) }
+    ensures done { IfOk result (λ done. refused_done (contents_of contents) fail ≡ Some (done_of done)) }
     ensures found { IfOk result (λ _. fail ≢ Fail.NoMemory) }
     ensures closed { IfOk result (λ done. IsClosed (done_of done).state) }
 {

@@ -1,5 +1,5 @@
 //! The values of rows: how their properties are read and written.
-ghost use Rattle.std.specs.Prelude.{◌≡◌, ◌<◌, IfOk, IfSome, length};
+ghost use Rattle.std.specs.Prelude.{◌≡◌, ◌<◌, IfOk, IfSome, Some, length};
 ghost use Rattle.charged_heap.specs.Closed.{IsClosed as IsClosedStore, IsSoundValue};
 ghost use Rattle.charged_heap.specs.Store.{properties};
 ghost use Rattle.ivm_text.specs.Keys.{value_at};
@@ -23,13 +23,13 @@ fn row_value(contents: &Contents, row: u32) -> Value
     requires closed { AreClosed (contents_of contents.now) }
     requires there { row < length contents.now.rows }
 
-    ensures value { result ≡ row_value (contents_of contents.now) row }
+    ensures value { row_value (contents_of contents.now) row ≡ Some result }
     ensures sound { IsSoundValue contents.now.heap result }
 {
     let item = contents.rows.as_slice()[row as usize];
     match contents.heap.get(item) {
         Item::Row(value) => *value,
-        _ => Value::Undefined,
+        _ => unreachable!(),
     }
 }
 
@@ -67,7 +67,7 @@ pub(crate) fn read_property(
     requires closed { AreClosed (contents_of contents) }
     requires there { row < length contents.rows }
 
-    ensures done { IfOk result (λ done. done_of done ≡ property_read row key.now (contents_of contents)) }
+    ensures done { IfOk result (λ done. property_read row key.now (contents_of contents) ≡ Some (done_of done)) }
     ensures closed { IfOk result (λ done. IsClosed (done_of done).state) }
 {
     let object = row_value(&contents, row);
@@ -93,7 +93,7 @@ pub(crate) fn write_property(
     requires there { row < length contents.rows }
     requires value { IsSoundValue contents.heap value }
 
-    ensures done { IfOk result (λ done. done_of done ≡ property_written row key.now value (contents_of contents)) }
+    ensures done { IfOk result (λ done. property_written row key.now (Some value) (contents_of contents) ≡ Some (done_of done)) }
     ensures closed { IfOk result (λ done. IsClosed (done_of done).state) }
 {
     let object = row_value(&contents, row);

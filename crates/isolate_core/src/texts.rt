@@ -1,5 +1,5 @@
 //! Texts of tasks: how they are read and run.
-ghost use Rattle.std.specs.Prelude.{◌≡◌, ◌-◌, ◌<◌, ◌^◌, IfOk, length};
+ghost use Rattle.std.specs.Prelude.{◌≡◌, ◌-◌, ◌<◌, ◌^◌, IfOk, Some, length};
 ghost use Rattle.script_eval.specs.Runs.{IsSoundCompletion, root_of};
 ghost use Rattle.script_meaning.specs.Places.{script_at};
 ghost use Rattle.js_scripts.specs.Text.{script as script_reading};
@@ -97,7 +97,7 @@ fn run_checked(
     requires closed { AreClosed (contents_of contents) }
     requires there { number < length contents.contexts }
 
-    ensures done { IfOk result (λ done. done_of done ≡ text_run budget number (script_reading checked) (contents_of contents)) }
+    ensures done { IfOk result (λ done. text_run budget number (script_reading checked) (contents_of contents) ≡ Some (done_of done)) }
     ensures closed { IfOk result (λ done. IsClosed (done_of done).state) }
 {
     let script = contents.scripts.len();

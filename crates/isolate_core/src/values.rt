@@ -1,9 +1,10 @@
 //! How values leave an isolate, and how they enter it.
-ghost use Rattle.std.specs.Prelude.{◌≡◌, ◌<◌, [], ◌∷◌, length, IfOk};
+ghost use Rattle.std.specs.Prelude.{◌≡◌, ◌<◌, [], ◌∷◌, length, IfOk, Some};
 ghost use Rattle.std.specs.Option.{unwrap_or};
 ghost use Rattle.charged_heap.specs.Closed.{IsClosed, IsSoundValue};
 ghost use Rattle.charged_heap.specs.Store.{item_at};
 ghost use Rattle.js_ops.specs.Values.{units_in};
+ghost use Rattle.isolate_meaning.specs.Fits.{IsPlainLeaf, IsPrimitive};
 ghost use Rattle.isolate_meaning.specs.Values.{primitive, text, error, item_copy, value_copy, result as result_of, reading, not_copyable, thrown_item, thrown_copy, thrown, passed_value, value_of};
 
 use charged_heap::{Heap, Item, Value};
@@ -156,22 +157,27 @@ pub(crate) fn thrown(alloc: Global, heap: &Heap, value: Value) -> Result<Outcome
 // ---- in
 
 fn value_of(leaf: Leaf) -> Value
-    ensures { result ≡ value_of leaf }
+    requires { IsPlainLeaf leaf }
+    ensures { value_of leaf ≡ Some result }
 {
     match leaf {
-        Leaf::Undefined | Leaf::Node(_) => Value::Undefined,
+        Leaf::Undefined => Value::Undefined,
         Leaf::Null => Value::Null,
         Leaf::Bool(truth) => Value::Bool(truth),
         Leaf::Num(number) => Value::Num(number),
+        Leaf::Node(_) => unreachable!(),
     }
 }
 
 /// The primitive that passes.
 pub(crate) fn passed_value(passed: &Passed) -> Value
-    ensures { result ≡ passed_value passed.now }
+    requires { IsPrimitive passed.now }
+    ensures { passed_value passed.now ≡ Some result }
 {
     match passed {
-        Passed::Copy(copy) | Passed::External(copy) => value_of(copy.root),
-        Passed::Ref(_) | Passed::Deref(_) | Passed::Callback(_) => Value::Undefined,
+        Passed::Copy(copy) => value_of(copy.root),
+        Passed::External(_) | Passed::Ref(_) | Passed::Deref(_) | Passed::Callback(_) => {
+            unreachable!()
+        }
     }
 }

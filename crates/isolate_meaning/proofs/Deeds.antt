@@ -1,6 +1,7 @@
 -- What comes of a task on a live isolate: it lives on with all that it had, or it ends at its limit in cells.
 use Rattle.std.proofs.Common.{◌≡◌, ℕ, ◌+◌, ◌-◌, ◌≤◌, List, [], ◌∷◌, length, Bool, true, false, if◌then◌else◌, nat_le, Option, None, Some, Ok, Err, refl, sym, ap, subst, ◌∙◌, arith, inl, inr, length-append}
-use Rattle.std.specs.Option.{unwrap_or, option_map_or}
+use Rattle.std.specs.Prelude.{IfSome}
+use Rattle.std.specs.Option.{unwrap_or, option_map_or, option_and_then}
 use Rattle.ivm_text.specs.declared.copies.Copy.{Copy}
 use Rattle.ivm_text.specs.declared.copies.Passed.TheVariants as passed
 use Rattle.ivm_text.specs.declared.overrun.Overrun.{Overrun}
@@ -30,7 +31,7 @@ use Rattle.task_history.specs.declared.outcome.Outcome.{Outcome}
 use Rattle.task_history.specs.declared.outcome.Outcome.TheVariants as outcome
 use Rattle.isolate_meaning.specs.State.{Contents, live, ended, is_ended}
 use Rattle.isolate_meaning.specs.Values.{result, thrown, value_copy, passed_value}
-use Rattle.isolate_meaning.specs.Tasks.{Done, MadeContext, lives, over, with_store, with_context, with_script, going_on, context_items, context_made, context_at, run_done, last_run, text_run, row_value, own_property, property_read, property_written}
+use Rattle.isolate_meaning.specs.Tasks.{Done, MadeContext, lives, over, with_store, with_context, with_script, going_on, context_items, context_made, context_at, run_done, last_run, text_run, row_value, own_property, property_told, property_put, property_read, property_written}
 use Rattle.isolate_meaning.specs.Does.{Acts, ActsOn, entry_of}
 use Rattle.isolate_meaning.specs.Laws.{AreThere, IsContextReply, EndsByLimit}
 
@@ -81,11 +82,15 @@ same_on : (old new : Contents) (out : Outcome) (ticks : ℕ) → new.contexts �
 same_on old new out ticks contexts rows quiet other = lives_on new out ticks (all_there old new contexts rows) quiet (other_there new out other)
 
 -- a call over the heap that goes on so
-comes_on : {A : Type 0} (old : Contents) (ends : Ends A) (go : A → Store → Done) → ((a : A) (s : Store) → Comes old (go a s)) → Comes old (going_on old ends go)
+comes_on : {A : Type 0} (old : Contents) (ends : Ends A) (go : A → Store → Option Done) → ((a : A) (s : Store) → IfSome (go a s) (Comes old)) → IfSome (going_on old ends go) (Comes old)
 comes_on old (Ok a, s) go each = each a s
 comes_on old (Err (Over told), s) go each = passes s told 0
 comes_on old (Err (Throw v), s) go each = same_on old (with_store old s) (thrown s v) 0 refl refl refl (λ n row is. cc)
-comes_on old (Err NoMemory, s) go each = same_on old (with_store old s) outcome.Done 0 refl refl refl done_other
+comes_on old (Err NoMemory, s) go each = tt
+
+-- what comes, where something does
+some_comes : {o : Option Done} (old : Contents) (done : Done) → o ≡ Some done → IfSome o (Comes old) → Comes old done
+some_comes old done is each = subst (λ o. IfSome o (Comes old)) is each
 
 -- ---- each kind of task
 
@@ -100,9 +105,9 @@ made_on old made s =
     let row_is : length old.rows ≡ row = cc in
     (omega (arith, contexts, context_is), omega (arith, rows, row_is)))
 
-context_comes : (old : Contents) → Comes old (context_made old)
+context_comes : (old : Contents) → IfSome (context_made old) (Comes old)
 unfolding context_made
-context_comes old = comes_on old (context_items old.store) (λ made s. lives (with_context old made s) (outcome.Context (length old.contexts) (length old.rows)) 0) (made_on old)
+context_comes old = comes_on old (context_items old.store) (λ made s. Some (lives (with_context old made s) (outcome.Context (length old.contexts) (length old.rows)) 0)) (made_on old)
 
 run_comes : (old middle : Contents) (ran : Completion × Store × ℕ) → middle.contexts ≡ old.contexts → middle.rows ≡ old.rows → Comes old (run_done middle ran)
 run_comes old middle (completion.Normal v, s, ticks) contexts rows = same_on old (with_store middle s) (result s v) ticks contexts rows refl (λ n row is. cc)
@@ -110,11 +115,11 @@ run_comes old middle (completion.Throw v, s, ticks) contexts rows = same_on old 
 run_comes old middle (completion.Stop Timeout, s, ticks) contexts rows = same_on old (with_store middle s) (outcome.Timeout ticks) ticks contexts rows refl (timeout_other ticks)
 run_comes old middle (completion.Stop (Memory told), s, ticks) contexts rows = passes s told ticks
 
-text_comes : (budget n : ℕ) (reading : Reading) (old : Contents) → Comes old (text_run budget n reading old)
+text_comes : (budget n : ℕ) (reading : Reading) (old : Contents) → IfSome (text_run budget n reading old) (Comes old)
 unfolding text_run
 text_comes budget n (refused r) old = same_on old old (outcome.Syntax r) 0 refl refl refl (λ n row is. cc)
 text_comes budget n (script nodes) old =
-    comes_on old (item_made (item.Script (length old.scripts)) old.store) (λ _ s. last_run budget (length nodes - 1) (context_at old n) (with_script old nodes s))
+    comes_on old (item_made (item.Script (length old.scripts)) old.store) (λ _ s. Some (last_run budget (length nodes - 1) (context_at old n) (with_script old nodes s)))
     (λ _ s.
     let middle = with_script old nodes s in
     run_comes old middle (run_end budget (script_run middle.scripts (length middle.scripts - 1) (length nodes - 1) (context_at old n).names (context_at old n).global (run_start middle.store 0 budget))) refl refl)
@@ -123,27 +128,39 @@ read_comes : (old : Contents) (copy : Option Copy) → Comes old (lives old (opt
 read_comes old None = same_on old old outcome.NotTransferable 0 refl refl refl (λ n row is. cc)
 read_comes old (Some copy) = same_on old old (outcome.Passed (passed.Copy copy)) 0 refl refl refl (passed_other copy)
 
-property_comes : (row : ℕ) (key : List ℕ) (old : Contents) → Comes old (property_read row key old)
-unfolding property_read
-property_comes row key old = read_comes old (value_copy old.store (unwrap_or (own_property old.store (row_value old row) key) value.Undefined))
+told_comes : (key : List ℕ) (v : Value) (old : Contents) → Comes old (property_told key old v)
+told_comes key v old = read_comes old (value_copy old.store (unwrap_or (own_property old.store v key) value.Undefined))
 
-written_comes : (row : ℕ) (key : List ℕ) (v : Value) (old : Contents) → Comes old (property_written row key v old)
-unfolding property_written
-written_comes row key v old =
-    comes_on old (write_outcome (row_value old row) key v old.store) (λ _ s. lives (with_store old s) outcome.Done 0)
+object_comes : (key : List ℕ) (object : Option Value) (old : Contents) → IfSome (option_and_then (λ v. Some (property_told key old v)) object) (Comes old)
+object_comes key None old = tt
+object_comes key (Some v) old = told_comes key v old
+
+property_comes : (row : ℕ) (key : List ℕ) (old : Contents) → IfSome (property_read row key old) (Comes old)
+unfolding property_read
+property_comes row key old = object_comes key (row_value old row) old
+
+put_comes : (key : List ℕ) (v : Value) (object : Option Value) (old : Contents) → IfSome (option_and_then (property_put key old v) object) (Comes old)
+put_comes key v None old = tt
+put_comes key v (Some object) old =
+    comes_on old (write_outcome object key v old.store) (λ _ s. Some (lives (with_store old s) outcome.Done 0))
     (λ _ s. same_on old (with_store old s) outcome.Done 0 refl refl refl done_other)
 
+written_comes : (row : ℕ) (key : List ℕ) (passed : Option Value) (old : Contents) → IfSome (property_written row key passed old) (Comes old)
+unfolding property_written
+written_comes row key None old = tt
+written_comes row key (Some v) old = put_comes key v (row_value old row) old
+
 act_comes : (row : ℕ) (act : Act) (old : Contents) (done : Done) → ActsOn row act old done → Comes old done
-act_comes row (Get key want) old done acts = subst (Comes old) (sym acts) (property_comes row key old)
-act_comes row (Set key value) old done acts = subst (Comes old) (sym acts) (written_comes row key (passed_value value) old)
+act_comes row (Get key want) old done acts = some_comes old done acts (property_comes row key old)
+act_comes row (Set key value) old done acts = some_comes old done acts (written_comes row key (passed_value value) old)
 act_comes row (Apply receiver args want) old done acts = absurd acts
 act_comes row CopyOut old done acts = absurd acts
 
 pub comes : (budget : ℕ) (task : TaskKind) (old : Contents) (done : Done) → Acts budget task old done → Comes old done
-comes budget kind.Context old done acts = subst (Comes old) (sym acts) (context_comes old)
+comes budget kind.Context old done acts = some_comes old done acts (context_comes old)
 comes budget (kind.Compile text) old done acts = absurd acts
 comes budget (kind.Run compiled context want) old done acts = absurd acts
-comes budget (kind.Eval context text want) old done acts = subst (Comes old) (sym acts.runs) (text_comes budget context acts.reading old)
+comes budget (kind.Eval context text want) old done acts = some_comes old done acts.runs (text_comes budget context acts.reading old)
 comes budget (kind.Act row act) old done acts = act_comes row act old done acts
 comes budget (kind.Resume promise answer) old done acts = absurd acts
 
@@ -206,14 +223,18 @@ refused_items s =
     refused_then (item_made (item.Scope None [] []) s) _ (refused_made (item.Scope None [] []) s) (λ names s.
     refused_then (item_made (item.Row (value.Item global)) s) _ (refused_made (item.Row (value.Item global)) s) (λ row s. tt)))
 
-reply_on : {A : Type 0} (old : Contents) (ends : Ends A) (go : A → Store → Done) → IsRefusedAtMost ends → ((a : A) (s : Store) → IsContextReply (live old) (go a s).out) → IsContextReply (live old) (going_on old ends go).out
+-- the reply tells a context, or the limit
+abbrev pub Replies : Contents → Done → Type 0
+Replies old done = IsContextReply (live old) done.out
+
+reply_on : {A : Type 0} (old : Contents) (ends : Ends A) (go : A → Store → Option Done) → IsRefusedAtMost ends → ((a : A) (s : Store) → IfSome (go a s) (Replies old)) → IfSome (going_on old ends go) (Replies old)
 reply_on old (Ok a, s) go is each = each a s
 reply_on old (Err (Over told), s) go is each = inr tt
 reply_on old (Err (Throw v), s) go is each = absurd is
 reply_on old (Err NoMemory, s) go is each = absurd is
 
 -- a context that is made is told with the numbers of those before it, or the limit was passed
-pub made_reply : (old : Contents) → IsContextReply (live old) (context_made old).out
+pub made_reply : (old : Contents) → IfSome (context_made old) (Replies old)
 unfolding context_made
 made_reply old =
-    reply_on old (context_items old.store) (λ made s. lives (with_context old made s) (outcome.Context (length old.contexts) (length old.rows)) 0) (refused_items old.store) (λ made s. inl refl)
+    reply_on old (context_items old.store) (λ made s. Some (lives (with_context old made s) (outcome.Context (length old.contexts) (length old.rows)) 0)) (refused_items old.store) (λ made s. inl refl)

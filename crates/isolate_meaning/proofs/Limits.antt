@@ -1,7 +1,8 @@
 -- No entry passes the limit in cells or the budget of its task, and the store's limit is the isolate's.
 use Rattle.std.proofs.Common.{◌≡◌, ◌∙◌, ℕ, ◌+◌, ◌-◌, ◌<◌, ◌≤◌, List, [], ◌∷◌, ◌++◌, length, Option, None, Some, Result, Ok, Err, refl, sym, ap, subst, arith}
 use Rattle.std.specs.List.{All}
-use Rattle.std.specs.Option.{unwrap_or, option_map_or}
+use Rattle.std.specs.Prelude.{IfSome}
+use Rattle.std.specs.Option.{unwrap_or, option_map_or, option_and_then}
 use Rattle.std.proofs.lemmas.List.Elements.{All-nil, All-cons}
 use Rattle.ivm_text.specs.declared.copies.Copy.{Copy}
 use Rattle.ivm_text.specs.declared.copies.Passed.TheVariants as passed
@@ -36,7 +37,7 @@ use Rattle.task_history.specs.declared.outcome.Outcome.TheVariants as outcome
 use Rattle.task_history.specs.declared.record.Entry.{Entry}
 use Rattle.isolate_meaning.specs.State.{Context, Contents, State, live, ended, Isolate, fresh, cells_of}
 use Rattle.isolate_meaning.specs.Values.{result, reading, thrown, value_copy, passed_value}
-use Rattle.isolate_meaning.specs.Tasks.{Done, MadeContext, lives, over, with_store, with_context, with_script, going_on, context_items, context_made, context_at, run_done, last_run, text_run, row_value, own_property, property_read, property_written}
+use Rattle.isolate_meaning.specs.Tasks.{Done, MadeContext, lives, over, with_store, with_context, with_script, going_on, context_items, context_made, context_at, run_done, last_run, text_run, row_value, own_property, property_told, property_put, property_read, property_written}
 use Rattle.isolate_meaning.specs.Does.{Acts, ActsOn, Does, DoesTo, acts, refuses, HostStop, entry_of, stop_entry}
 use Rattle.isolate_meaning.specs.Replay.{Replay, Stands}
 use Rattle.isolate_meaning.specs.Limits.{budget_of, TellsOverrun, TellsTimeout, KeepsLimits, HasLimit, StateHasLimit, KeepTheirLimits}
@@ -91,14 +92,16 @@ still most s t has within =
 
 -- ---- going on
 
-limited_on : {A : Type 0} (most budget : ℕ) (contents : Contents) (ends : Ends A) (go : A → Store → Done) → HasLimit most contents.store → EndsWithin contents.store ends
-    → ((a : A) (s : Store) → HasLimit most s → IsLimited most budget (go a s)) → IsLimited most budget (going_on contents ends go)
+limited_on : {A : Type 0} (most budget : ℕ) (contents : Contents) (ends : Ends A) (go : A → Store → Option Done) → HasLimit most contents.store → EndsWithin contents.store ends
+    → ((a : A) (s : Store) → HasLimit most s → IfSome (go a s) (IsLimited most budget)) → IfSome (going_on contents ends go) (IsLimited most budget)
 limited_on most budget contents (Ok a, s) go has within each = each a s (still most contents.store s has within.0)
 limited_on most budget contents (Err (Over told), s) go has within each = over_limited most budget 0 s told (still most contents.store s has within.0) (omega arith) within.1
 limited_on most budget contents (Err (Throw v), s) go has within each =
     lives_limited most budget 0 (with_store contents s) (thrown s v) (still most contents.store s has within.0) (omega arith) (λ n is. cc, λ told is. cc)
-limited_on most budget contents (Err NoMemory, s) go has within each =
-    lives_limited most budget 0 (with_store contents s) outcome.Done (still most contents.store s has within.0) (omega arith) (λ n is. cc, λ told is. cc)
+limited_on most budget contents (Err NoMemory, s) go has within each = tt
+
+some_limited : {o : Option Done} (most budget : ℕ) (done : Done) → o ≡ Some done → IfSome o (IsLimited most budget) → IsLimited most budget done
+some_limited most budget done is each = subst (λ o. IfSome o (IsLimited most budget)) is each
 
 -- ---- contexts
 
@@ -108,11 +111,11 @@ items_within s =
     ends_then s (item_made (item.Scope None [] []) s) _ (item_ends (item.Scope None [] []) s) (λ names s.
     ends_then s (item_made (item.Row (value.Item global)) s) _ (item_ends (item.Row (value.Item global)) s) (λ row s. same_store {A = MadeContext} s (Ok (record { context = record { names = names; global = global }; row = row })) tt)))
 
-context_limited : (most budget : ℕ) (contents : Contents) → HasLimit most contents.store → IsLimited most budget (context_made contents)
+context_limited : (most budget : ℕ) (contents : Contents) → HasLimit most contents.store → IfSome (context_made contents) (IsLimited most budget)
 unfolding context_made
 context_limited most budget contents has =
     limited_on most budget contents (context_items contents.store)
-    (λ made s. lives (with_context contents made s) (outcome.Context (length contents.contexts) (length contents.rows)) 0)
+    (λ made s. Some (lives (with_context contents made s) (outcome.Context (length contents.contexts) (length contents.rows)) 0))
     has (items_within contents.store)
     (λ made s has. lives_limited most budget 0 (with_context contents made s) (outcome.Context (length contents.contexts) (length contents.rows)) has (omega arith) (λ n is. cc, λ told is. cc))
 
@@ -155,12 +158,12 @@ last_limited most budget root context contents has =
     (script_run contents.scripts (length contents.scripts - 1) root context.names context.global (run_start contents.store 0 budget)) has
     (script_within contents.scripts (length contents.scripts - 1) root context.names context.global (run_start contents.store 0 budget))
 
-text_limited : (most budget n : ℕ) (text : Reading) (contents : Contents) → HasLimit most contents.store → IsLimited most budget (text_run budget n text contents)
+text_limited : (most budget n : ℕ) (text : Reading) (contents : Contents) → HasLimit most contents.store → IfSome (text_run budget n text contents) (IsLimited most budget)
 unfolding text_run
 text_limited most budget n (refused r) contents has = lives_limited most budget 0 contents (outcome.Syntax r) has (omega arith) (λ n is. cc, λ told is. cc)
 text_limited most budget n (script nodes) contents has =
     limited_on most budget contents (item_made (item.Script (length contents.scripts)) contents.store)
-    (λ _ s. last_run budget (length nodes - 1) (context_at contents n) (with_script contents nodes s))
+    (λ _ s. Some (last_run budget (length nodes - 1) (context_at contents n) (with_script contents nodes s)))
     has (item_ends (item.Script (length contents.scripts)) contents.store)
     (λ _ s has. last_limited most budget (length nodes - 1) (context_at contents n) (with_script contents nodes s) has)
 
@@ -170,32 +173,47 @@ told_reading : (copy : Option Copy) → IsQuiet (option_map_or (λ copy. outcome
 told_reading None = (λ n is. cc, λ told is. cc)
 told_reading (Some copy) = (λ n is. cc, λ told is. cc)
 
-read_limited : (most budget row : ℕ) (key : List ℕ) (contents : Contents) → HasLimit most contents.store → IsLimited most budget (property_read row key contents)
-unfolding property_read
-read_limited most budget row key contents has =
-    lives_limited most budget 0 contents (reading contents.store (unwrap_or (own_property contents.store (row_value contents row) key) value.Undefined)) has (omega arith)
-    (told_reading (value_copy contents.store (unwrap_or (own_property contents.store (row_value contents row) key) value.Undefined)))
+told_limited : (most budget : ℕ) (key : List ℕ) (v : Value) (contents : Contents) → HasLimit most contents.store → IsLimited most budget (property_told key contents v)
+told_limited most budget key v contents has =
+    lives_limited most budget 0 contents (reading contents.store (unwrap_or (own_property contents.store v key) value.Undefined)) has (omega arith)
+    (told_reading (value_copy contents.store (unwrap_or (own_property contents.store v key) value.Undefined)))
 
-written_limited : (most budget row : ℕ) (key : List ℕ) (v : Value) (contents : Contents) → HasLimit most contents.store → IsLimited most budget (property_written row key v contents)
-unfolding property_written
-written_limited most budget row key v contents has =
-    limited_on most budget contents (write_outcome (row_value contents row) key v contents.store) (λ _ s. lives (with_store contents s) outcome.Done 0)
-    has (o-write (row_value contents row) key v contents.store)
+object_limited : (most budget : ℕ) (key : List ℕ) (object : Option Value) (contents : Contents) → HasLimit most contents.store
+    → IfSome (option_and_then (λ v. Some (property_told key contents v)) object) (IsLimited most budget)
+object_limited most budget key None contents has = tt
+object_limited most budget key (Some v) contents has = told_limited most budget key v contents has
+
+read_limited : (most budget row : ℕ) (key : List ℕ) (contents : Contents) → HasLimit most contents.store → IfSome (property_read row key contents) (IsLimited most budget)
+unfolding property_read
+read_limited most budget row key contents has = object_limited most budget key (row_value contents row) contents has
+
+put_limited : (most budget : ℕ) (key : List ℕ) (v : Value) (object : Option Value) (contents : Contents) → HasLimit most contents.store
+    → IfSome (option_and_then (property_put key contents v) object) (IsLimited most budget)
+put_limited most budget key v None contents has = tt
+put_limited most budget key v (Some object) contents has =
+    limited_on most budget contents (write_outcome object key v contents.store) (λ _ s. Some (lives (with_store contents s) outcome.Done 0))
+    has (o-write object key v contents.store)
     (λ _ s has. lives_limited most budget 0 (with_store contents s) outcome.Done has (omega arith) (λ n is. cc, λ told is. cc))
+
+written_limited : (most budget row : ℕ) (key : List ℕ) (passed : Option Value) (contents : Contents) → HasLimit most contents.store
+    → IfSome (property_written row key passed contents) (IsLimited most budget)
+unfolding property_written
+written_limited most budget row key None contents has = tt
+written_limited most budget row key (Some v) contents has = put_limited most budget key v (row_value contents row) contents has
 
 -- ---- tasks
 
 act_limited : (most budget row : ℕ) (act : Act) (contents : Contents) (done : Done) → HasLimit most contents.store → ActsOn row act contents done → IsLimited most budget done
-act_limited most budget row (Get key want) contents done has came = subst (IsLimited most budget) (sym came) (read_limited most budget row key contents has)
-act_limited most budget row (Set key v) contents done has came = subst (IsLimited most budget) (sym came) (written_limited most budget row key (passed_value v) contents has)
+act_limited most budget row (Get key want) contents done has came = some_limited most budget done came (read_limited most budget row key contents has)
+act_limited most budget row (Set key v) contents done has came = some_limited most budget done came (written_limited most budget row key (passed_value v) contents has)
 act_limited most budget row (Apply receiver args want) contents done has came = absurd came
 act_limited most budget row CopyOut contents done has came = absurd came
 
 kind_limited : (most budget : ℕ) (task : TaskKind) (contents : Contents) (done : Done) → HasLimit most contents.store → Acts budget task contents done → IsLimited most budget done
-kind_limited most budget kind.Context contents done has came = subst (IsLimited most budget) (sym came) (context_limited most budget contents has)
+kind_limited most budget kind.Context contents done has came = some_limited most budget done came (context_limited most budget contents has)
 kind_limited most budget (kind.Compile text) contents done has came = absurd came
 kind_limited most budget (kind.Run compiled context want) contents done has came = absurd came
-kind_limited most budget (kind.Eval context text want) contents done has came = subst (IsLimited most budget) (sym came.runs) (text_limited most budget context came.reading contents has)
+kind_limited most budget (kind.Eval context text want) contents done has came = some_limited most budget done came.runs (text_limited most budget context came.reading contents has)
 kind_limited most budget (kind.Act row act) contents done has came = act_limited most budget row act contents done has came
 kind_limited most budget (kind.Resume promise answer) contents done has came = absurd came
 

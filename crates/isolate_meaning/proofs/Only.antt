@@ -16,18 +16,21 @@ use Rattle.isolate_meaning.specs.Laws.{AreReadOnce, IsOneDeed, IsOneEnd}
 
 -- ---- what acts
 
+some_once : {o : Option Done} (one other : Done) → o ≡ Some one → o ≡ Some other → other ≡ one
+some_once one other a b = cc
+
 act_once : (row : ℕ) (act : Act) (contents : Contents) (one other : Done) → ActsOn row act contents one → ActsOn row act contents other → other ≡ one
-act_once row (Get key want) contents one other a b = b ∙ sym a
-act_once row (Set key value) contents one other a b = b ∙ sym a
+act_once row (Get key want) contents one other a b = some_once one other a b
+act_once row (Set key value) contents one other a b = some_once one other a b
 act_once row (Apply receiver args want) contents one other a b = absurd a
 act_once row CopyOut contents one other a b = absurd a
 
 pub acts_once : AreReadOnce → (budget : ℕ) (task : TaskKind) (contents : Contents) (one other : Done) → Acts budget task contents one → Acts budget task contents other → other ≡ one
-acts_once once budget kind.Context contents one other a b = b ∙ sym a
+acts_once once budget kind.Context contents one other a b = some_once one other a b
 acts_once once budget (kind.Compile text) contents one other a b = absurd a
 acts_once once budget (kind.Run script context want) contents one other a b = absurd a
 acts_once once budget (kind.Eval context text want) contents one other a b =
-    b.runs ∙ ap (λ r. text_run budget context r contents) (once text b.reading a.reading b.reads a.reads) ∙ sym a.runs
+    some_once one other a.runs (ap (λ r. text_run budget context r contents) (sym (once text b.reading a.reading b.reads a.reads)) ∙ b.runs)
 acts_once once budget (kind.Act row act) contents one other a b = act_once row act contents one other a b
 acts_once once budget (kind.Resume promise answer) contents one other a b = absurd a
 

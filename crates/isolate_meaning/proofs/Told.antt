@@ -1,5 +1,6 @@
 -- A context that was told is there, and so a task that names only what was told fits.
 use Rattle.std.proofs.Common.{◌≡◌, ℕ, zero, suc, List, [], ◌∷◌, ◌++◌, Option, None, Some, refl, sym, subst, arith, ⊎_elim}
+use Rattle.std.specs.Prelude.{IfSome}
 use Rattle.std.specs.List.{Contains}
 use Rattle.std.proofs.lemmas.List.Elements.{Contains-append_left, Contains-append_cases}
 use Rattle.task_history.specs.Lists.{outs}
@@ -17,7 +18,7 @@ use Rattle.isolate_meaning.specs.Does.{Acts, Does, DoesTo, acts, refuses}
 use Rattle.isolate_meaning.specs.Replay.{Replay, Stands}
 use Rattle.isolate_meaning.specs.Known.{TellsContext, NamesKnown, IsKnown}
 use Rattle.isolate_meaning.specs.Laws.{IsContextReply, AreThere, TellsWhatIsThere, KnownFits}
-use Rattle.isolate_meaning.proofs.Deeds.{comes, stays_there, told_there, made_reply}
+use Rattle.isolate_meaning.proofs.Deeds.{Replies, comes, stays_there, told_there, made_reply}
 
 -- ---- what is there stays, or the isolate ends
 
@@ -67,7 +68,7 @@ tells_contexts first last journal whole n row (call, here) = tells_from first la
 context_reply_of : (task : Task) (old new : State) (entry : Entry) → DoesTo task old new entry → task.kind ≡ kind.Context → IsContextReply old entry.outcome
 context_reply_of task old new entry (acts {contents = contents} {done = done} deed) is =
     let made = subst (λ k. Acts task.budget k contents done) is deed in
-    subst (λ (d : Done). IsContextReply (live contents) d.out) (sym made) (made_reply contents)
+    subst (λ (o : Option Done). IfSome o (Replies contents)) made (made_reply contents)
 context_reply_of task old new entry refuses is = refl
 
 pub context_reply : (task : Task) (old new : Isolate) (entry : Entry) → Does task old new entry → task.kind ≡ kind.Context → IsContextReply old.state entry.outcome

@@ -24,17 +24,17 @@ use Rattle.isolate_meaning.specs.Fits.{Fits}
 pub record RunsText (budget context : ℕ) (text : List ℕ) (contents : Contents) (done : Done) : Type 0 where
   pub reading : Reading
   pub reads : Reads text reading
-  pub runs : done ≡ text_run budget context reading contents
+  pub runs : text_run budget context reading contents ≡ Some done
 
 abbrev pub ActsOn : ℕ → Act → Contents → Done → Type 0
-ActsOn row (Get key want) contents done = done ≡ property_read row key contents
-ActsOn row (Set key value) contents done = done ≡ property_written row key (passed_value value) contents
+ActsOn row (Get key want) contents done = property_read row key contents ≡ Some done
+ActsOn row (Set key value) contents done = property_written row key (passed_value value) contents ≡ Some done
 ActsOn row (Apply receiver args want) contents done = ⊥
 ActsOn row CopyOut contents done = ⊥
 
 -- what a task of this kind comes to, within so many ticks; the others aren't built yet
 abbrev pub Acts : ℕ → TaskKind → Contents → Done → Type 0
-Acts budget kind.Context contents done = done ≡ context_made contents
+Acts budget kind.Context contents done = context_made contents ≡ Some done
 Acts budget (kind.Compile text) contents done = ⊥
 Acts budget (kind.Run script context want) contents done = ⊥
 Acts budget (kind.Eval context text want) contents done = RunsText budget context text contents done

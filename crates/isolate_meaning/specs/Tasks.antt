@@ -1,7 +1,7 @@
 -- What each kind of task does to the contents of a live isolate, and what it comes to.
 -- This project's own, after isolated-vm's `createContext`, `eval`, `get` and `set`; docs/HOST.md, "What a call gives", docs/PRICES.md.
-use Rattle.std.specs.Prelude.{ℕ, List, [], ◌∷◌, ◌++◌, ◌-◌, length, slice_index_or, Option, None, Ok, Err}
-use Rattle.std.specs.Option.{unwrap_or}
+use Rattle.std.specs.Prelude.{ℕ, List, [], ◌∷◌, ◌++◌, ◌-◌, length, slice_index_or, Option, None, Some, Ok, Err}
+use Rattle.std.specs.Option.{unwrap_or, option_and_then}
 use Rattle.ivm_text.specs.Keys.{value_at}
 use Rattle.ivm_text.specs.declared.overrun.Overrun.{Overrun}
 use Rattle.charged_heap.specs.Price.{charge_of}
@@ -52,12 +52,12 @@ abbrev pub with_store : Contents → Store → Contents
 with_store contents s = record contents { store = s }
 
 -- goes on with what a call over the heap gave; a charge above the limit ends the isolate, and what is thrown is told.
--- No such call ends for want of memory.
-abbrev pub going_on : {A : Type 0} → Contents → Ends A → (A → Store → Done) → Done
+-- Nothing comes of a call that ends for want of memory.
+abbrev pub going_on : {A : Type 0} → Contents → Ends A → (A → Store → Option Done) → Option Done
 going_on contents (Ok a, s) go = go a s
-going_on contents (Err (Over told), s) go = over s told 0
-going_on contents (Err (Throw v), s) go = lives (with_store contents s) (thrown s v) 0
-going_on contents (Err NoMemory, s) go = lives (with_store contents s) outcome.Done 0
+going_on contents (Err (Over told), s) go = Some (over s told 0)
+going_on contents (Err (Throw v), s) go = Some (lives (with_store contents s) (thrown s v) 0)
+going_on contents (Err NoMemory, s) go = None
 
 -- ---- contexts
 
@@ -81,10 +81,10 @@ with_context contents made s = record contents {
 }
 
 -- a context is made, and told with its number and that of its global object's row
-unfoldable pub context_made : Contents → Done
+unfoldable pub context_made : Contents → Option Done
 context_made contents =
     going_on contents (context_items contents.store) (λ made s.
-    lives (with_context contents made s) (outcome.Context (length contents.contexts) (length contents.rows)) 0)
+    Some (lives (with_context contents made s) (outcome.Context (length contents.contexts) (length contents.rows)) 0))
 
 -- ---- runs of texts
 
@@ -111,20 +111,34 @@ abbrev pub with_script : Contents → List Node → Store → Contents
 with_script contents nodes s = record contents { store = s; scripts = contents.scripts ++ nodes ∷ [] }
 
 -- a text that is no script is refused, and nothing changes; a script is charged, and joins the others before it is run
-unfoldable pub text_run : ℕ → ℕ → Reading → Contents → Done
-text_run budget n (refused r) contents = lives contents (outcome.Syntax r) 0
+unfoldable pub text_run : ℕ → ℕ → Reading → Contents → Option Done
+text_run budget n (refused r) contents = Some (lives contents (outcome.Syntax r) 0)
 text_run budget n (script nodes) contents =
     going_on contents (item_made (item.Script (length contents.scripts)) contents.store) (λ _ s.
-    last_run budget (length nodes - 1) (context_at contents n) (with_script contents nodes s))
+    Some (last_run budget (length nodes - 1) (context_at contents n) (with_script contents nodes s)))
 
 -- ---- rows
 
-abbrev pub row_value_in : Item → Value
-row_value_in (item.Row v) = v
-row_value_in _ = value.Undefined
+-- the value that a row holds; no other item is a row
+abbrev pub row_value_in : Item → Option Value
+row_value_in (item.Row v) = Some v
+row_value_in (item.Text units) = None
+row_value_in (item.Plain props) = None
+row_value_in (item.Array values) = None
+row_value_in (item.Error sort message) = None
+row_value_in (item.Scope parent bindings functions) = None
+row_value_in (item.Closure number node scope global receiver) = None
+row_value_in (item.Promise state reactions) = None
+row_value_in (item.Settler promise good) = None
+row_value_in (item.Reference to released) = None
+row_value_in (item.Deref handle) = None
+row_value_in (item.External copy) = None
+row_value_in (item.Into copy) = None
+row_value_in (item.Callback number) = None
+row_value_in (item.Script number) = None
 
 -- the value of a row
-abbrev pub row_value : Contents → ℕ → Value
+abbrev pub row_value : Contents → ℕ → Option Value
 row_value contents row = row_value_in (item_at contents.store (slice_index_or contents.rows row 0))
 
 -- the own property of a value; only objects have some
@@ -132,12 +146,23 @@ abbrev pub own_property : Store → Value → List ℕ → Option Value
 own_property s (value.Item n) key = value_at (properties (item_at s n)) key
 own_property s _ key = None
 
--- a property is read; one that isn't there is undefined
-unfoldable pub property_read : ℕ → List ℕ → Contents → Done
-property_read row key contents =
-    lives contents (reading contents.store (unwrap_or (own_property contents.store (row_value contents row) key) value.Undefined)) 0
+-- a property of this value is read; one that isn't there is undefined
+abbrev pub property_told : List ℕ → Contents → Value → Done
+property_told key contents v =
+    lives contents (reading contents.store (unwrap_or (own_property contents.store v key) value.Undefined)) 0
 
--- a value is written to a property as an assignment writes it: a new key goes last and is charged, a present key keeps its place
-unfoldable pub property_written : ℕ → List ℕ → Value → Contents → Done
-property_written row key v contents =
-    going_on contents (write_outcome (row_value contents row) key v contents.store) (λ _ s. lives (with_store contents s) outcome.Done 0)
+-- a property of the value of a row is read
+unfoldable pub property_read : ℕ → List ℕ → Contents → Option Done
+property_read row key contents =
+    option_and_then (λ object. Some (property_told key contents object)) (row_value contents row)
+
+-- a value is written to a property of another as an assignment writes it: a new key goes last and is charged, a present
+-- key keeps its place
+abbrev pub property_put : List ℕ → Contents → Value → Value → Option Done
+property_put key contents v object =
+    going_on contents (write_outcome object key v contents.store) (λ _ s. Some (lives (with_store contents s) outcome.Done 0))
+
+-- what passes is written to a property of the value of a row
+unfoldable pub property_written : ℕ → List ℕ → Option Value → Contents → Option Done
+property_written row key passed contents =
+    option_and_then (λ v. option_and_then (property_put key contents v) (row_value contents row)) passed

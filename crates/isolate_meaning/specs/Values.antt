@@ -35,7 +35,20 @@ error kind message = record { nodes = node.Error kind message ∷ []; root = lea
 -- a string passes as its copy; no other item passes by itself
 abbrev pub item_copy : Item → Option Copy
 item_copy (item.Text units) = Some (text units)
-item_copy _ = None
+item_copy (item.Plain props) = None
+item_copy (item.Array values) = None
+item_copy (item.Error sort message) = None
+item_copy (item.Scope parent bindings functions) = None
+item_copy (item.Closure number node scope global receiver) = None
+item_copy (item.Promise state reactions) = None
+item_copy (item.Settler promise good) = None
+item_copy (item.Reference to released) = None
+item_copy (item.Deref handle) = None
+item_copy (item.External copy) = None
+item_copy (item.Into copy) = None
+item_copy (item.Callback number) = None
+item_copy (item.Row v) = None
+item_copy (item.Script number) = None
 
 -- a primitive or a string as what passes; no other value does
 abbrev pub value_copy : Store → Value → Option Copy
@@ -61,7 +74,19 @@ not_copyable = error TypeError (codes "thrown value not copyable")
 abbrev pub thrown_item : Store → Item → Copy
 thrown_item s (item.Text units) = text units
 thrown_item s (item.Error kind message) = error kind (unwrap_or (units_in (item_at s message)) [])
-thrown_item s _ = not_copyable
+thrown_item s (item.Plain props) = not_copyable
+thrown_item s (item.Array values) = not_copyable
+thrown_item s (item.Scope parent bindings functions) = not_copyable
+thrown_item s (item.Closure number node scope global receiver) = not_copyable
+thrown_item s (item.Promise state reactions) = not_copyable
+thrown_item s (item.Settler promise good) = not_copyable
+thrown_item s (item.Reference to released) = not_copyable
+thrown_item s (item.Deref handle) = not_copyable
+thrown_item s (item.External copy) = not_copyable
+thrown_item s (item.Into copy) = not_copyable
+thrown_item s (item.Callback number) = not_copyable
+thrown_item s (item.Row v) = not_copyable
+thrown_item s (item.Script number) = not_copyable
 
 -- a thrown value: a primitive, a string, or an error with its message; of another is told that it has no copy
 abbrev pub thrown_copy : Store → Value → Copy
@@ -78,17 +103,17 @@ thrown s v = outcome.Throw (thrown_copy s v)
 -- ---- in
 
 -- a primitive; a node of a copy can't enter yet
-abbrev pub value_of : Leaf → Value
-value_of leaf.Undefined = value.Undefined
-value_of leaf.Null = value.Null
-value_of (leaf.Bool b) = value.Bool b
-value_of (leaf.Num n) = value.Num n
-value_of (leaf.Node n) = value.Undefined
+abbrev pub value_of : Leaf → Option Value
+value_of leaf.Undefined = Some value.Undefined
+value_of leaf.Null = Some value.Null
+value_of (leaf.Bool b) = Some (value.Bool b)
+value_of (leaf.Num n) = Some (value.Num n)
+value_of (leaf.Node n) = None
 
--- the primitive that passes
-abbrev pub passed_value : Passed → Value
+-- the primitive that passes; nothing else can enter yet
+abbrev pub passed_value : Passed → Option Value
 passed_value (passed.Copy copy) = value_of copy.root
-passed_value (passed.External copy) = value_of copy.root
-passed_value (passed.Ref handle) = value.Undefined
-passed_value (passed.Deref handle) = value.Undefined
-passed_value (passed.Callback number) = value.Undefined
+passed_value (passed.External copy) = None
+passed_value (passed.Ref handle) = None
+passed_value (passed.Deref handle) = None
+passed_value (passed.Callback number) = None
