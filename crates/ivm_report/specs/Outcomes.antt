@@ -61,20 +61,20 @@ own_text own.NotCopy = codes "not a copy"
 own_text own.Released = codes "released"
 own_text own.Disposed = codes "disposed"
 
--- a copy is told by what was wanted
+-- a copy is told by what was wanted; where a reference was wanted no isolate sends a copy, and it is a value
 abbrev pub want_name : Want → List ℕ
 want_name want.Value = codes "value "
 want_name want.Copy = codes "copy "
 want_name want.External = codes "external "
 want_name want.Reference = codes "value "
 
--- a value that passed; no script has callbacks yet, and they have no text
+-- a value that passed; a callback, which no isolate sends yet, by its number
 abbrev pub passed_text : Want → Passed → List ℕ
 passed_text want (passed.Copy copy) = want_name want ++ value_text copy
 passed_text want (passed.External copy) = codes "external " ++ value_text copy
 passed_text want (passed.Ref handle) = codes "reference " ++ type_name handle.kind
 passed_text want (passed.Deref handle) = codes "reference " ++ type_name handle.kind
-passed_text want (passed.Callback number) = []
+passed_text want (passed.Callback number) = codes "callback " ++ decimal number
 
 -- the word that is out of profile, where there is one
 abbrev pub word_text : Option (List ℕ) → List ℕ

@@ -26,16 +26,22 @@ first_disposal journal = position (λ (entry : Entry). is_disposal entry.outcome
 abbrev pub is_at : ℕ → Option ℕ → Bool
 is_at place found = option_map_or (λ n. n == place) found false
 
--- what entry p of a journal says of its call
+-- what entry p of a journal says of its call; no run settles a call by an entry that isn't there
 abbrev pub entry_text : Want → List Entry → ℕ → List ℕ
 entry_text want journal p =
-    option_map_or (λ (entry : Entry). outcome_text want (is_at p (first_disposal journal)) entry.ticks entry.outcome) (slice_get journal p) []
+    option_map_or (λ (entry : Entry). outcome_text want (is_at p (first_disposal journal)) entry.ticks entry.outcome)
+    (slice_get journal p) (codes "no entry")
 
--- what is said of a call: by the entry of its run, by the host itself, or, where no event says more, that it was done
-abbrev pub settlement_text : Want → List (List Entry) → Option Settlement → List ℕ
-settlement_text want journals None = codes "done"
-settlement_text want journals (Some (how.Own own)) = own_text own
-settlement_text want journals (Some (how.Entry i p)) = entry_text want (journal_at journals i) p
+-- a call that no settlement was noted for: a disposal was done, since the ask itself settles it, and
+-- any other call, of which a run that is done leaves none, is told as it stands
+abbrev pub unsettled_text : What → List ℕ
+unsettled_text what.Declare = codes "not settled"
+unsettled_text (what.Context isolate) = codes "not settled"
+unsettled_text (what.Eval context budget want text) = codes "not settled"
+unsettled_text (what.Get target key want) = codes "not settled"
+unsettled_text (what.Set target key value) = codes "not settled"
+unsettled_text (what.Dispose isolate) = codes "done"
+unsettled_text (what.Wait target) = codes "not settled"
 
 -- how the result of a command is wanted
 abbrev pub want_of : What → Want
@@ -47,10 +53,17 @@ want_of (what.Set target key value) = Value
 want_of (what.Dispose isolate) = Value
 want_of (what.Wait target) = Value
 
+-- what is said of a call: by the entry of its run, by the host itself, or where nothing was noted
+abbrev pub settlement_text : What → List (List Entry) → Option Settlement → List ℕ
+settlement_text what journals None = unsettled_text what
+settlement_text what journals (Some (how.Own own)) = own_text own
+settlement_text what journals (Some (how.Entry i p)) = entry_text (want_of what) (journal_at journals i) p
+
 -- what is said of the call after n others: it has number n, where that can be drawn
 abbrev pub call_text : Record → What → ℕ → List ℕ
 call_text kept what n =
-    if nat_le most_calls n then codes "too many calls" else settlement_text (want_of what) kept.isolates (settlement_of n kept.host)
+    if nat_le most_calls n then codes "too many calls"
+    else settlement_text what kept.isolates (settlement_of n kept.host)
 
 -- one line a call
 abbrev pub line_of : List ℕ → List ℕ → List ℕ

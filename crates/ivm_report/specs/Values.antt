@@ -46,12 +46,12 @@ error_name error.RangeError = codes "RangeError"
 error_name error.ReferenceError = codes "ReferenceError"
 error_name error.SyntaxError = codes "SyntaxError"
 
--- a string, or an error by its kind and message; no isolate sends objects and arrays yet, and they have no text
+-- a string, or an error by its kind and message; of objects and arrays, which no isolate sends yet, only what they are
 abbrev pub node_text : Option CopyNode → List ℕ
-node_text None = []
+node_text None = codes "no value"
 node_text (Some (node.Text units)) = string_text units
-node_text (Some (node.Plain pairs)) = []
-node_text (Some (node.Array leaves)) = []
+node_text (Some (node.Plain pairs)) = codes "object"
+node_text (Some (node.Array leaves)) = codes "array"
 node_text (Some (node.Error kind message)) = error_name kind ++ 40 ∷ string_text message ++ 41 ∷ []
 
 abbrev pub leaf_text : List CopyNode → Leaf → List ℕ

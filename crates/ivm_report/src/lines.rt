@@ -1,6 +1,6 @@
 //! The report of a record.
-ghost use Rattle.std.specs.Prelude.{◌≡◌, ℕ, ◌++◌, ◌<◌, ◌+◌, ◌≤◌, length, IfOk, OnOk};
-ghost use Rattle.ivm_report.specs.Report.{call_text, calls_in, command_text, entry_text, is_at, lines_of, report_of, settlement_text, want_of};
+ghost use Rattle.std.specs.Prelude.{◌≡◌, ℕ, ◌++◌, ◌<◌, ◌+◌, ◌≤◌, codes, length, IfOk, OnOk};
+ghost use Rattle.ivm_report.specs.Report.{call_text, calls_in, command_text, entry_text, is_at, lines_of, report_of, unsettled_text, want_of};
 ghost use Rattle.ivm_report.specs.Tables.{AreTables};
 ghost use Rattle.task_history.specs.Lists.{journal_at};
 
@@ -25,7 +25,8 @@ struct Ledger<'a> {
 /// The report of a record of a script: one line for each call, in the order of the script.
 ///
 /// A call that drew no number is told as `too many calls`, one that was settled by an entry by that entry's
-/// outcome, one that the host settled itself by its cause, and a disposal that was done as `done`.
+/// outcome, one that the host settled itself by its cause, a disposal that was done as `done`, and any other
+/// call, which no run leaves without a settlement, as `not settled`.
 /// Only want of memory refuses it.
 pub fn report(alloc: Global, script: &HostScript, kept: &Record) -> Result<Vec<u8>, NoMemory>
     ensures { IfOk result (λ text. text.items ≡ report_of script.now kept.now) }
@@ -89,7 +90,7 @@ fn push_call(
         return Ok(());
     }
     match ledger.settlements[number] {
-        None => text.extend_from_slice(b"done")?,
+        None => text.extend_from_slice(unsettled_text(what).as_bytes())?,
         Some(Settlement::Own(own)) => text.extend_from_slice(own_text(own).as_bytes())?,
         Some(Settlement::Entry { isolate, place }) => {
             push_entry(alloc, text, want_of(what), isolate, place, ledger)?
@@ -111,13 +112,21 @@ fn push_entry(
     ensures { OnOk result (text.new.items ≡ text.old.items ++ entry_text want (journal_at ledger.now.kept.now.isolates isolate) place) }
 {
     let Some(journal) = ledger.kept.isolates.get(isolate) else {
-        return Ok(());
+        return push_absent(text);
     };
     let Some(entry) = journal.get(place) else {
-        return Ok(());
+        return push_absent(text);
     };
     let first = is_at(place as usize, ledger.first_disposals[isolate as usize]);
     push_outcome(alloc, text, want, first, entry.ticks, &entry.outcome)
+}
+
+// Appends what is said where the entry isn't there.
+fn push_absent(text: &mut Vec<u8>) -> Result<(), NoMemory>
+    ensures { OnOk result (text.new.items ≡ text.old.items ++ codes "no entry") }
+{
+    text.extend_from_slice(b"no entry")?;
+    Ok(())
 }
 
 fn is_at(place: usize, found: Option<usize>) -> bool
@@ -126,6 +135,21 @@ fn is_at(place: usize, found: Option<usize>) -> bool
     match found {
         Some(n) => n == place,
         None => false,
+    }
+}
+
+// What is said of a call that no settlement was noted for.
+fn unsettled_text(what: &What) -> &'static str
+    ensures { result.now ≡ unsettled_text what.now }
+{
+    match what {
+        What::Dispose { .. } => "done",
+        What::Declare
+        | What::Context { .. }
+        | What::Eval { .. }
+        | What::Get { .. }
+        | What::Set { .. }
+        | What::Wait { .. } => "not settled",
     }
 }
 

@@ -95,7 +95,10 @@ fn push_passed(
             text.extend_from_slice(b"reference ")?;
             text.extend_from_slice(type_name(handle.kind).as_bytes())?;
         }
-        Passed::Callback(_) => {}
+        Passed::Callback(number) => {
+            text.extend_from_slice(b"callback ")?;
+            push_decimal(alloc, text, *number)?;
+        }
     }
     Ok(())
 }

@@ -34,7 +34,9 @@ fn push_node(alloc: Global, text: &mut Vec<u8>, node: Option<&CopyNode>) -> Resu
             push_string(alloc, text, message)?;
             text.push(b')')?;
         }
-        _ => {}
+        Some(CopyNode::Plain(_)) => text.extend_from_slice(b"object")?,
+        Some(CopyNode::Array(_)) => text.extend_from_slice(b"array")?,
+        None => text.extend_from_slice(b"no value")?,
     }
     Ok(())
 }

@@ -3,7 +3,9 @@
 use anyhow::{Error, bail};
 use host_syntax::{Command, HostScript, What};
 use ivm_report::report;
-use ivm_text::{Copy, CopyNode, Handle, Items, Leaf, Passed, TypeOf, Uncopyable, Units, Want};
+use ivm_text::{
+    Copy, CopyNode, Handle, Items, Leaf, Pairs, Passed, TypeOf, Uncopyable, Units, Want,
+};
 use std::alloc::Global;
 use task_history::{By, Entry, Event, Outcome, Own, Record, Settlement, Shared};
 use test_tables::{Row, Table, Tally};
@@ -47,7 +49,12 @@ fn asked(alloc: Global, row: &Row) -> Result<HostScript, Error> {
 fn record_of(alloc: Global, row: &Row) -> Result<Record, Error> {
     let mut kept = Record::empty(alloc);
     let how = match row.field(1)? {
+        "nothing" => return Ok(kept),
         "not a reference" => Settlement::Own(Own::NotReference),
+        "an entry that is not there" => Settlement::Entry {
+            isolate: 0,
+            place: 0,
+        },
         _ => {
             let mut journal = Items::new(alloc);
             journal.push(Entry {
@@ -68,14 +75,23 @@ fn record_of(alloc: Global, row: &Row) -> Result<Record, Error> {
     Ok(kept)
 }
 
+/// A copy passed, whose root is this node.
+fn copy_of(alloc: Global, node: Option<CopyNode>) -> Result<Outcome, Error> {
+    let mut nodes = Items::new(alloc);
+    if let Some(node) = node {
+        nodes.push(node)?;
+    }
+    let root = Leaf::Node(0);
+    Ok(Outcome::Passed(Passed::Copy(Copy { nodes, root })))
+}
+
 fn outcome_of(alloc: Global, row: &Row) -> Result<Outcome, Error> {
     Ok(match row.field(1)? {
-        "text x" => {
-            let mut nodes = Items::new(alloc);
-            nodes.push(CopyNode::Text(Units::from_text(alloc, "x")?))?;
-            let root = Leaf::Node(0);
-            Outcome::Passed(Passed::Copy(Copy { nodes, root }))
-        }
+        "text x" => copy_of(alloc, Some(CopyNode::Text(Units::from_text(alloc, "x")?)))?,
+        "an object" => copy_of(alloc, Some(CopyNode::Plain(Pairs::new(alloc))))?,
+        "an array" => copy_of(alloc, Some(CopyNode::Array(Items::new(alloc))))?,
+        "a node that is not there" => copy_of(alloc, None)?,
+        "callback 3" => Outcome::Passed(Passed::Callback(3)),
         "external copy of false" => {
             let (nodes, root) = (Items::new(alloc), Leaf::Bool(false));
             Outcome::Passed(Passed::External(Copy { nodes, root }))
