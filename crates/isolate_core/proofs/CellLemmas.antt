@@ -9,6 +9,7 @@ use Rattle.isolate_meaning.specs.Laws.{AreReadOnce}
 use Rattle.isolate_meaning.specs.Replay.{Kept, Replay, GivesAgain, StandsBy, FitsUnlessVoid, MayPerform, Performs, isolate_in}
 use Rattle.isolate_meaning.proofs.Only.{replays_once, tasks_once}
 use Rattle.isolate_meaning.proofs.Replays.{replay_more, replay_before, stands_itself}
+use Rattle.isolate_meaning.proofs.Scripts.{scripts_stay}
 use Rattle.isolate_core.specs.declared.contents.Contents.{Contents as Held}
 use Rattle.isolate_core.specs.declared.life.Life.{Life}
 use Rattle.isolate_core.specs.declared.life.Life.TheVariants.{Live, Ended, Void}
@@ -87,7 +88,7 @@ open_after task Void (Live others) before after entry is_open was now does ready
 -- the state that a whole cell has is closed
 closed_of : (kept : Kept) (state : Option State) → StandsBy kept state → IsClosedLife state
 closed_of kept None stands = tt
-closed_of kept (Some state) stands = stands.1
+closed_of kept (Some state) stands = stands.1.0
 
 pub closed_in : (number limit : ℕ) (written : Written) (life : Life) → IsWhole number limit written life → IsClosedLife (state_of life)
 closed_in number limit written life whole = closed_of (kept_in number limit written life) (state_of life) whole.kept
@@ -97,7 +98,8 @@ pub performed_whole : AreReadOnce → (task : Task) (number limit : ℕ) (writte
     → IsWhole number limit new life
 performed_whole once task number limit written new old life entry whole may carried is =
     subst (λ w. IsWhole number limit w life) (sym is) (record {
-      kept = subst (StandsBy (kept_in number limit (record written { entries = written.entries ++ entry ∷ [] }) life)) (sym carried.now) (again, carried.closed);
+      kept = subst (StandsBy (kept_in number limit (record written { entries = written.entries ++ entry ∷ [] }) life)) (sym carried.now)
+          (again, (carried.closed, scripts_stay number limit (written.entries ++ entry ∷ []) (isolate_of number limit carried.after) again.replays));
       stoppable = open_after task old life carried.before carried.after entry written.is_open carried.was carried.now carried.does whole.stoppable;
     })
   where
@@ -132,4 +134,4 @@ stopped_whole number limit written new life held cells whole is counted done =
     ∙ ap (λ n. record { entries = written.entries ++ stop_entry n ∷ []; is_open = false }) counted
     in
     subst (λ w. IsWhole number limit w (Ended Host)) (sym open_now)
-    (record { kept = (gives_stop number limit written.entries (contents_of held) lives.kept.0, tt); stoppable = tt })
+    (record { kept = (gives_stop number limit written.entries (contents_of held) lives.kept.0, (tt, tt)); stoppable = tt })

@@ -6,7 +6,7 @@ use Rattle.task_history.specs.declared.task.Task.{Task}
 use Rattle.task_history.specs.declared.outcome.By.{By}
 use Rattle.task_history.specs.declared.outcome.Outcome.TheVariants.{Disposed}
 use Rattle.task_history.specs.declared.record.Entry.{Entry}
-use Rattle.isolate_meaning.specs.State.{State, live, ended, IsClosed}
+use Rattle.isolate_meaning.specs.State.{State, live, ended, HeapIsClosed}
 use Rattle.isolate_meaning.specs.Tasks.{Done}
 use Rattle.isolate_meaning.specs.Does.{Acts, DoesTo, acts, refuses, entry_of}
 use Rattle.isolate_core.specs.declared.contents.Contents.{Contents as Held}
@@ -16,7 +16,7 @@ use Rattle.isolate_core.specs.Contents.{contents_of}
 use Rattle.isolate_core.specs.Life.{state_of, CarriesOut}
 
 live_carried : (task : Task) (life new : Life) (held : Held) (done : Done) (entry : Entry) → life ≡ Live held
-    → Acts task.budget task.kind (contents_of held) done → IsClosed done.state → state_of new ≡ Some done.state
+    → Acts task.budget task.kind (contents_of held) done → HeapIsClosed done.state → state_of new ≡ Some done.state
     → entry ≡ entry_of task done.out done.ticks done.cells → CarriesOut task life new entry
 live_carried task life new held done entry is does closed now noted = record {
   before = live (contents_of held);
@@ -29,7 +29,7 @@ live_carried task life new held done entry is does closed now noted = record {
 
 -- a live isolate does what the task asks for
 pub carried_live : (task : Task) (life : Life) (held : Held) (done : Done) (told : Result (Life × Entry) NoMemory) → life ≡ Live held
-    → Acts task.budget task.kind (contents_of held) done → IsClosed done.state → IfOk told (λ end. state_of end.0 ≡ Some done.state)
+    → Acts task.budget task.kind (contents_of held) done → HeapIsClosed done.state → IfOk told (λ end. state_of end.0 ≡ Some done.state)
     → IfOk told (λ end. end.1 ≡ entry_of task done.out done.ticks done.cells) → IfOk told (λ end. CarriesOut task life end.0 end.1)
 carried_live task life held done (Ok end) is does closed now noted = live_carried task life end.0 held done end.1 is does closed now noted
 carried_live task life held done (Err none) is does closed now noted = tt

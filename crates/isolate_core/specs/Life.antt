@@ -5,7 +5,7 @@ use Rattle.task_history.specs.declared.task.Task.{Task}
 use Rattle.task_history.specs.declared.record.Entry.{Entry}
 use Rattle.isolate_core.specs.declared.life.Life.{Life}
 use Rattle.isolate_core.specs.declared.life.Life.TheVariants.{Live, Ended, Void}
-use Rattle.isolate_meaning.specs.State.{State, live, ended, IsClosed}
+use Rattle.isolate_meaning.specs.State.{State, live, ended, HeapIsClosed}
 use Rattle.isolate_meaning.specs.Does.{DoesTo}
 use Rattle.isolate_core.specs.Contents.{contents_of}
 
@@ -18,7 +18,7 @@ state_of Void = None
 -- each number in the state, if there is one, names what its place asks for
 abbrev pub IsClosedLife : Option State → Type 0
 IsClosedLife None = Unit {0}
-IsClosedLife (Some state) = IsClosed state
+IsClosedLife (Some state) = HeapIsClosed state
 
 -- the task turns one state into another, which is closed, and leaves this entry
 pub record CarriesOut (task : Task) (old new : Life) (entry : Entry) : Type 0 where
@@ -27,7 +27,7 @@ pub record CarriesOut (task : Task) (old new : Life) (entry : Entry) : Type 0 wh
   pub was : state_of old ≡ Some before
   pub now : state_of new ≡ Some after
   pub does : DoesTo task before after entry
-  pub closed : IsClosed after
+  pub closed : HeapIsClosed after
 
 -- as long as the isolate lives, a stop can be written
 abbrev pub IsOpenWhereLive : Life → Bool → Type 0

@@ -1,6 +1,6 @@
 //! What one task does to the contents of a live isolate.
 ghost use Rattle.std.specs.Prelude.{◌<◌, length, IfOk};
-ghost use Rattle.isolate_meaning.specs.State.{AreClosed, IsClosed};
+ghost use Rattle.isolate_meaning.specs.State.{AreClosed, HeapIsClosed};
 ghost use Rattle.isolate_meaning.specs.Fits.{IsSoundAct, IsSoundKind, NamesIn};
 ghost use Rattle.isolate_meaning.specs.Does.{Acts, ActsOn};
 ghost use Rattle.isolate_core.specs.Contents.{contents_of};
@@ -28,7 +28,7 @@ pub(crate) fn act(
     requires names { NamesIn (contents_of contents) kind.now }
 
     ensures acts { IfOk result (λ done. Acts budget kind.now (contents_of contents) (done_of done)) }
-    ensures closed { IfOk result (λ done. IsClosed (done_of done).state) }
+    ensures closed { IfOk result (λ done. HeapIsClosed (done_of done).state) }
 {
     match kind {
         TaskKind::Context => make_context(alloc, contents),
@@ -48,7 +48,7 @@ fn act_on(alloc: Global, contents: Contents, row: u32, act: &Act) -> Result<Done
     requires there { row < length contents.rows }
 
     ensures acts { IfOk result (λ done. ActsOn row act.now (contents_of contents) (done_of done)) }
-    ensures closed { IfOk result (λ done. IsClosed (done_of done).state) }
+    ensures closed { IfOk result (λ done. HeapIsClosed (done_of done).state) }
 {
     match act {
         Act::Get(key, _) => read_property(alloc, contents, row, key),

@@ -4,7 +4,7 @@ ghost use Rattle.charged_heap.specs.Closed.{IsClosed as IsClosedStore};
 ghost use Rattle.charged_heap.specs.Ends.{IsSoundFail, Meets};
 ghost use Rattle.charged_heap.specs.Growth.{Grows};
 ghost use Rattle.charged_heap.specs.Store.{IsAt};
-ghost use Rattle.isolate_meaning.specs.State.{AreClosed, IsClosed, IsClosedContext, IsRow};
+ghost use Rattle.isolate_meaning.specs.State.{AreClosed, HeapIsClosed, IsClosedContext, IsRow};
 ghost use Rattle.isolate_meaning.specs.Tasks.{context_items, context_made, with_context};
 ghost use Rattle.isolate_core.specs.Contents.{contents_of};
 ghost use Rattle.isolate_core.specs.Done.{done_of};
@@ -111,7 +111,7 @@ pub(crate) fn make_context(alloc: Global, mut contents: Contents) -> Result<Done
     requires { AreClosed (contents_of contents) }
 
     ensures done { IfOk result (λ done. context_made (contents_of contents) ≡ Some (done_of done)) }
-    ensures closed { IfOk result (λ done. IsClosed (done_of done).state) }
+    ensures closed { IfOk result (λ done. HeapIsClosed (done_of done).state) }
 {
     let outcome = Outcome::Context {
         context: contents.contexts.len(),

@@ -1,6 +1,6 @@
 //! What came of a task.
 ghost use Rattle.std.specs.Prelude.{◌≡◌, ◌≢◌, IfOk, Some};
-ghost use Rattle.isolate_meaning.specs.State.{AreClosed, IsClosed};
+ghost use Rattle.isolate_meaning.specs.State.{AreClosed, HeapIsClosed};
 ghost use Rattle.isolate_core.specs.Contents.{contents_of};
 ghost use Rattle.isolate_core.specs.Done.{done_of, refused_done};
 ghost use Rattle.charged_heap.specs.Ends.{IsSoundFail};
@@ -37,7 +37,7 @@ pub(crate) fn refused(alloc: Global, contents: Contents, fail: Fail) -> Result<D
 
     ensures done { IfOk result (λ done. refused_done (contents_of contents) fail ≡ Some (done_of done)) }
     ensures found { IfOk result (λ _. fail ≢ Fail.NoMemory) }
-    ensures closed { IfOk result (λ done. IsClosed (done_of done).state) }
+    ensures closed { IfOk result (λ done. HeapIsClosed (done_of done).state) }
 {
     match fail {
         Fail::Throw(value) => {

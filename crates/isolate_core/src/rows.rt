@@ -3,7 +3,7 @@ ghost use Rattle.std.specs.Prelude.{◌≡◌, ◌<◌, IfOk, IfSome, Some, leng
 ghost use Rattle.charged_heap.specs.Closed.{IsClosed as IsClosedStore, IsSoundValue};
 ghost use Rattle.charged_heap.specs.Store.{properties};
 ghost use Rattle.ivm_text.specs.Keys.{value_at};
-ghost use Rattle.isolate_meaning.specs.State.{AreClosed, IsClosed};
+ghost use Rattle.isolate_meaning.specs.State.{AreClosed, HeapIsClosed};
 ghost use Rattle.isolate_meaning.specs.Tasks.{own_property, property_read, property_written, row_value};
 ghost use Rattle.isolate_core.specs.Contents.{contents_of};
 ghost use Rattle.isolate_core.specs.Done.{done_of};
@@ -68,7 +68,7 @@ pub(crate) fn read_property(
     requires there { row < length contents.rows }
 
     ensures done { IfOk result (λ done. property_read row key.now (contents_of contents) ≡ Some (done_of done)) }
-    ensures closed { IfOk result (λ done. IsClosed (done_of done).state) }
+    ensures closed { IfOk result (λ done. HeapIsClosed (done_of done).state) }
 {
     let object = row_value(&contents, row);
     let value = own_property(&contents.heap, object, key).unwrap_or(Value::Undefined);
@@ -94,7 +94,7 @@ pub(crate) fn write_property(
     requires value { IsSoundValue contents.heap value }
 
     ensures done { IfOk result (λ done. property_written row key.now (Some value) (contents_of contents) ≡ Some (done_of done)) }
-    ensures closed { IfOk result (λ done. IsClosed (done_of done).state) }
+    ensures closed { IfOk result (λ done. HeapIsClosed (done_of done).state) }
 {
     let object = row_value(&contents, row);
     match write(alloc, &mut contents.heap, object, key, value) {

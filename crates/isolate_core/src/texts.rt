@@ -3,7 +3,7 @@ ghost use Rattle.std.specs.Prelude.{◌≡◌, ◌-◌, ◌<◌, ◌^◌, IfOk, 
 ghost use Rattle.script_eval.specs.Runs.{IsSoundCompletion, root_of};
 ghost use Rattle.script_meaning.specs.Places.{script_at};
 ghost use Rattle.js_scripts.specs.Text.{script as script_reading};
-ghost use Rattle.isolate_meaning.specs.State.{AreClosed, IsClosed};
+ghost use Rattle.isolate_meaning.specs.State.{AreClosed, HeapIsClosed};
 ghost use Rattle.isolate_meaning.specs.Tasks.{context_at, last_run, run_done, text_run};
 ghost use Rattle.isolate_meaning.specs.Does.{RunsText};
 ghost use Rattle.isolate_core.specs.Contents.{contents_of};
@@ -34,7 +34,7 @@ fn run_done(
     requires sound { IsSoundCompletion contents.heap completion }
 
     ensures done { IfOk result (λ done. done_of done ≡ run_done (contents_of contents) (completion, contents.heap, ticks)) }
-    ensures closed { IfOk result (λ done. IsClosed (done_of done).state) }
+    ensures closed { IfOk result (λ done. HeapIsClosed (done_of done).state) }
 {
     let outcome = match completion {
         Completion::Normal(value) => result(alloc, &contents.heap, value)?,
@@ -68,7 +68,7 @@ fn run_last(
     requires there { number < length contents.contexts }
 
     ensures done { IfOk result (λ done. done_of done ≡ last_run budget (root_of (script_at contents.scripts (length contents.scripts - 1))) (context_at (contents_of contents) number) (contents_of contents)) }
-    ensures closed { IfOk result (λ done. IsClosed (done_of done).state) }
+    ensures closed { IfOk result (λ done. HeapIsClosed (done_of done).state) }
 {
     let context = &contents.contexts.as_slice()[number as usize];
     let mut ticks = 0;
@@ -98,7 +98,7 @@ fn run_checked(
     requires there { number < length contents.contexts }
 
     ensures done { IfOk result (λ done. text_run budget number (script_reading checked) (contents_of contents) ≡ Some (done_of done)) }
-    ensures closed { IfOk result (λ done. IsClosed (done_of done).state) }
+    ensures closed { IfOk result (λ done. HeapIsClosed (done_of done).state) }
 {
     let script = contents.scripts.len();
     match make(&mut contents.heap, Item::Script(script)) {
@@ -125,7 +125,7 @@ pub(crate) fn run_text(
     requires few { length text.now < 2 ^ 32 }
 
     ensures done { IfOk result (λ done. RunsText budget number text.now (contents_of contents) (done_of done)) }
-    ensures closed { IfOk result (λ done. IsClosed (done_of done).state) }
+    ensures closed { IfOk result (λ done. HeapIsClosed (done_of done).state) }
 {
     match read_script(alloc, text) {
         Ok(checked) => run_checked(alloc, contents, budget, number, checked),

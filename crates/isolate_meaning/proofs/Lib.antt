@@ -5,3 +5,4 @@ pub mod Ends
 pub mod Told
 pub mod Limits
 pub mod Only
+pub mod Scripts

@@ -7,6 +7,7 @@ use Rattle.charged_heap.specs.Price.{charge_of}
 use Rattle.charged_heap.specs.Store.{Store, IsAt, IsPlain, IsScope}
 use Rattle.charged_heap.specs.declared.item.ItemKind.{ItemKind}
 use Rattle.charged_heap.specs.declared.item.ItemKind.TheVariants as kind
+use Rattle.script_laws.specs.Scripts.{ScriptsAreThere}
 use Rattle.script_meaning.specs.Places.{ScriptList}
 use Rattle.task_history.specs.declared.outcome.By.{By}
 
@@ -71,6 +72,15 @@ pub record AreClosed (contents : Contents) : Type 0 where
   pub contexts : All (IsClosedContext contents.store) contents.contexts
   pub rows : All (IsAt IsRow contents.store) contents.rows
 
+abbrev pub HeapIsClosed : State → Type 0
+HeapIsClosed (live contents) = AreClosed contents
+HeapIsClosed (ended by) = Unit {0}
+
+-- what the items name of the isolate's scripts is there
+abbrev pub ScriptsAre : State → Type 0
+ScriptsAre (live contents) = ScriptsAreThere contents.scripts contents.store
+ScriptsAre (ended by) = Unit {0}
+
+-- all that a state names is there
 abbrev pub IsClosed : State → Type 0
-IsClosed (live contents) = AreClosed contents
-IsClosed (ended by) = Unit {0}
+IsClosed state = HeapIsClosed state × ScriptsAre state

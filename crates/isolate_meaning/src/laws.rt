@@ -5,7 +5,7 @@ ghost use Rattle.task_history.specs.Lists.{outs};
 ghost use Rattle.task_history.specs.declared.task.Task.{Task};
 ghost use Rattle.task_history.specs.declared.task.TaskKind.TheVariants.{Context};
 ghost use Rattle.task_history.specs.declared.record.Entry.{Entry};
-ghost use Rattle.isolate_meaning.specs.State.{Isolate, fresh};
+ghost use Rattle.isolate_meaning.specs.State.{Isolate, ScriptsAre, fresh};
 ghost use Rattle.isolate_meaning.specs.Does.{Does};
 ghost use Rattle.isolate_meaning.specs.Replay.{Replay};
 ghost use Rattle.isolate_meaning.specs.Limits.{KeepTheirLimits};
@@ -39,6 +39,12 @@ pub fn ends_have_causes()
 /// is the isolate's.
 pub fn entries_keep_their_limits()
     ensures { (i limit : ℕ) (journal : List Entry) (last : Isolate) → Replay (fresh i limit) journal last → KeepTheirLimits limit journal last }
+{}
+
+/// In each isolate that a journal gives, every function is one of its scripts, and every script that it was charged for is
+/// there.
+pub fn scripts_stay_there()
+    ensures { (i limit : ℕ) (journal : List Entry) (last : Isolate) → Replay (fresh i limit) journal last → ScriptsAre last.state }
 {}
 
 /// A context that is made is told with the number of the contexts before it and that of its row, unless the isolate has

@@ -11,5 +11,5 @@ mod laws;
 pub use laws::{
     disposals_end, each_task_is_answered_once, ended_isolates_refuse, ends_have_causes,
     entries_keep_their_limits, journals_have_one_end, known_tasks_fit, new_contexts_are_numbered,
-    tasks_do_one_thing, told_contexts_are_there,
+    scripts_stay_there, tasks_do_one_thing, told_contexts_are_there,
 };

@@ -1,0 +1,4 @@
+pub mod Changes
+pub mod StoreFunctions
+pub mod FormTrees
+pub mod FunctionWalk
