@@ -34,6 +34,7 @@ fn refuse_depth(alloc: Global, heap: &mut Heap) -> Result<Value, Fail>
 }
 
 /// Ends a node so whose tick was taken.
+#[inline(always)]
 fn too_deep(alloc: Global, scripts: &Scripts, heap: &mut Heap) -> Step
     ensures step { Steps scripts.now result heap.old heap.new (λ at s. too_deep s) }
     ensures ended { IsEnded result }
@@ -63,6 +64,7 @@ fn take_tick(left: &mut u32) -> bool
 /// Takes a node's tick and begins its form, where at most so many nodes may be in evaluation, itself
 /// included. Where no tick is left the run stops.
 #[tactic(auto, using(crate::proofs::Entering::entering, script_steps::proofs::Growing::growing))]
+#[inline(always)]
 pub(crate) fn enter(
     alloc: Global,
     scripts: &Scripts,
@@ -96,6 +98,7 @@ pub(crate) fn enter(
 
 /// Takes the tick of a call of a built-in function and calls it. Where no tick is left the run stops.
 #[tactic(auto, using(crate::proofs::Entering::calling, script_steps::proofs::Growing::growing))]
+#[inline(always)]
 pub(crate) fn call(
     alloc: Global,
     heap: &mut Heap,

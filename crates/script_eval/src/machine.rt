@@ -32,6 +32,7 @@ pub enum Control {
 }
 
 /// The form that waits innermost goes on with this end, unless no memory was found.
+#[inline(always)]
 fn ended(end: Result<Ended, Abrupt>) -> Result<Control, NoMemory>
     ensures { MatchResult result (λ next. (next ≡ Control.Ended end) × (end ≢ Err Abrupt.NoMemory)) (λ _. end ≡ Err Abrupt.NoMemory) }
 {
@@ -44,6 +45,7 @@ fn ended(end: Result<Ended, Abrupt>) -> Result<Control, NoMemory>
 /// Carries on with what a step came to: its form waits inside the others, or it has ended, by a call of a
 /// built-in function too.
 #[tactic(auto, using(crate::proofs::RestLemmas::rest_steps, crate::proofs::Ranks::ranks, crate::proofs::FrameLists::frame_lists))]
+#[inline(always)]
 fn place(
     alloc: Global,
     scripts: &Scripts,
@@ -87,6 +89,7 @@ fn place(
 
 /// Goes on by one node, or by one form that waited.
 #[tactic(auto, using(crate::proofs::RestLemmas::rest_steps, crate::proofs::Ranks::ranks, crate::proofs::FrameLists::frame_lists))]
+#[inline(always)]
 fn advance(
     alloc: Global,
     scripts: &Scripts,
@@ -128,6 +131,7 @@ fn advance(
 
 /// How the run has ended: nothing waits any more, or it is stopped.
 #[tactic(auto, using(crate::proofs::Ends::ends))]
+#[inline(always)]
 fn finished(frames: &Items<Frame>, next: Control) -> Option<Result<Ended, Abrupt>>
     ensures meaning { MatchOption result (IsRunning next) (λ end. (scripts : ScriptList) (s : State) → left_over scripts frames.now next s ≡ (end, s)) }
     ensures last { MatchOption result (¬ (IsLast next frames.now)) (λ end. next ≡ Control.Ended end) }

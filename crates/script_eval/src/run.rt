@@ -3,6 +3,7 @@ ghost use Rattle.std.specs.Prelude.{◌≡◌, ◌≤◌, IfOk};
 ghost use Rattle.charged_heap.specs.Closed.{IsClosed};
 ghost use Rattle.charged_heap.specs.Growth.{Grows};
 ghost use Rattle.charged_heap.specs.Store.{IsAt, IsPlain, IsScope};
+ghost use Rattle.script_laws.specs.Scripts.{ScriptsAreThere};
 ghost use Rattle.script_meaning.specs.Evaluates.{completion_of, run_end, run_start, script_run};
 ghost use Rattle.script_meaning.specs.Places.{script_at};
 ghost use Rattle.script_steps.specs.After.{with_left};
@@ -99,7 +100,7 @@ fn perform(
 /// evaluation a further one takes its tick and throws a new RangeError `nesting too deep`.
 ///
 /// However the run ends, also by `NoMemory`, which may come, the heap has what was made before, and `ticks`
-/// is at most `budget`.
+/// is at most `budget`. A run that ended leaves a heap whose functions are of these scripts, where it began in one.
 pub fn run_script(
     alloc: Global,
     heap: &mut Heap,
@@ -120,6 +121,7 @@ pub fn run_script(
 
     ensures grown { Grows heap.old heap.new }
     ensures closed { IsClosed heap.new }
+    ensures scripts { IfOk result (λ _. ScriptsAreThere scripts.now heap.old → ScriptsAreThere scripts.now heap.new) }
     ensures ticks { ticks.new ≤ budget }
 {
     let mut left = budget - *ticks;

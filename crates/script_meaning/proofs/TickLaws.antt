@@ -19,7 +19,6 @@ use Rattle.js_ops.specs.declared.operators.Operator.TheVariants as operator
 use Rattle.js_ops.specs.declared.operators.BinaryOperator.{BinaryOperator}
 use Rattle.js_ops.specs.declared.operators.UnaryOperator.{UnaryOperator}
 use Rattle.js_ops.specs.declared.operators.UnaryOperator.TheVariants as unary
-use Rattle.js_trees.specs.Forms.{is_function_kind}
 use Rattle.js_trees.specs.Tree.{Tree, kid}
 use Rattle.js_trees.specs.declared.declaration.Declaration.{Declaration}
 use Rattle.charged_heap.specs.Ends.{Ends}
@@ -189,13 +188,8 @@ m-enter b at f site arguments s takes few =
 m-item : (b : State) (at : Inside) (scripts : ScriptList) (one : Item) (receiver : Value) (arguments : List Value) (s : State)
     → IsLawful at → Follows b s → Keeps b (item_call at scripts one receiver arguments s)
 m-item b at scripts (item.Closure script node scope global kept) receiver arguments s takes few =
-    m-if b (is_function_kind (form_at scripts script node).head.kind)
-    (enter_rule at (form_at scripts script node)
-    (record { script = script; scope = scope; global = global; receiver = this_of (form_at scripts script node).head.kind kept receiver }) arguments s)
-    (of_heap s (no_function s.heap))
-    (m-enter b at (form_at scripts script node)
-    (record { script = script; scope = scope; global = global; receiver = this_of (form_at scripts script node).head.kind kept receiver }) arguments s takes few)
-    (m-of b s (no_function s.heap) few (o-no-function s.heap))
+    m-enter b at (form_at scripts script node)
+    (record { script = script; scope = scope; global = global; receiver = this_of (form_at scripts script node).head.kind kept receiver }) arguments s takes few
 m-item b at scripts _ receiver arguments s takes few = m-of b s _ few (o-no-function s.heap)
 
 m-builtin : (b : State) (which : Builtin) (receiver : Value) (arguments : List Value) (s : State) → Follows b s → Keeps b (builtin_rule which receiver arguments s)

@@ -14,7 +14,6 @@ use Rattle.js_syntax.specs.declared.kind.Kind.TheVariants as kinds
 use Rattle.charged_heap.specs.Ends.{Ends}
 use Rattle.js_ops.specs.Outcome.{thrown}
 use Rattle.js_members.specs.Arrays.{push_outcome, pop_outcome}
-use Rattle.js_trees.specs.Forms.{is_function_kind}
 use Rattle.js_trees.specs.Tree.{Tree, kid}
 use Rattle.js_trees.specs.Declarations.{declarations}
 use Rattle.js_trees.specs.declared.declaration.Declaration.{Declaration}
@@ -78,13 +77,12 @@ enter_rule at f site arguments s =
     on_heap s (call_scope site.script site.global site.scope f.head.names (body_declares (kid 0 f.kids)) arguments s.heap)
     (λ scope s. body_rule (is_body (kid 0 f.kids).head.kind) at (kid 0 f.kids) (record site { scope = scope }) s)
 
--- an item that is a function of one of the scripts is entered; no other can be called
+-- a function of one of the scripts is entered; no other item can be called. That a function's node is one is a law
+-- (`script_laws`), and isn't asked here.
 abbrev pub item_call : Inside → ScriptList → Item → Value → List Value → State → Out
 item_call at scripts (item.Closure script node scope global kept) receiver arguments s =
-    if is_function_kind (form_at scripts script node).head.kind
-    then enter_rule at (form_at scripts script node)
+    enter_rule at (form_at scripts script node)
     (record { script = script; scope = scope; global = global; receiver = this_of (form_at scripts script node).head.kind kept receiver }) arguments s
-    else of_heap s (no_function s.heap)
 item_call at scripts _ receiver arguments s = of_heap s (no_function s.heap)
 
 -- what a call of a value does

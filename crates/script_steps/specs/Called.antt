@@ -1,10 +1,9 @@
 -- What an item does that is called, by the function that it is.
 -- ECMA-262, the [[Call]] of functions; docs/SCRIPTS.md, "Calls".
-use Rattle.std.specs.Prelude.{ℕ, List, Option, Some, None, if◌then◌else◌}
+use Rattle.std.specs.Prelude.{ℕ, List, Option, Some, None}
 use Rattle.charged_heap.specs.declared.item.Item.{Item}
 use Rattle.charged_heap.specs.declared.item.Item.TheVariants as item
 use Rattle.charged_heap.specs.declared.values.Value.{Value}
-use Rattle.js_trees.specs.Forms.{is_function_kind}
 use Rattle.script_meaning.specs.Outcome.{State, Out, Inside, of_heap}
 use Rattle.script_meaning.specs.Places.{ScriptList, form_at}
 use Rattle.script_meaning.specs.Functions.{enter_rule, this_of, no_function}
@@ -19,10 +18,8 @@ closure_of _ = None
 -- a call of the closure of that node, made there
 abbrev pub closure_call : Inside → ScriptList → ℕ → Site → Value → List Value → State → Out
 closure_call at scripts node site receiver arguments s =
-    if is_function_kind (form_at scripts site.script node).head.kind
-    then enter_rule at (form_at scripts site.script node)
+    enter_rule at (form_at scripts site.script node)
     (record site { receiver = this_of (form_at scripts site.script node).head.kind site.receiver receiver }) arguments s
-    else of_heap s (no_function s.heap)
 
 -- a call of an item that may be one
 abbrev pub called_as : Inside → ScriptList → Option (ℕ × Site) → Value → List Value → State → Out

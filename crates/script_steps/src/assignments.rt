@@ -24,6 +24,7 @@ use std::alloc::Global;
 
 /// Begins `target = value`.
 #[tactic(auto, unfolding(crate::specs::After::after, script_meaning::specs::Expressions::assign_rule))]
+#[inline(always)]
 pub(crate) fn begin_assign(scripts: &Scripts, node: u32, site: Site) -> Step
     ensures step { Waits scripts.now result (λ at s. assign_rule scripts.now at ((form_at scripts.now site.script node).kids) site s) }
     ensures sound { (s : Store) → IsSoundSite s site → IsSoundStep s result }
@@ -35,6 +36,7 @@ pub(crate) fn begin_assign(scripts: &Scripts, node: u32, site: Site) -> Step
 
 /// Goes on with the target of `=`.
 #[tactic(auto, unfolding(crate::specs::After::after))]
+#[inline(always)]
 pub(crate) fn assign_target(scripts: &Scripts, right: u32, site: Site, place: Place) -> Step
     ensures step { Waits scripts.now result (λ at s. after at scripts.now (Frame.AssignTarget right site) (Ok (Ended.Place place), s)) }
     ensures sound { (s : Store) → IsSoundSite s site → IsSoundPlace s place → IsSoundStep s result }
@@ -45,6 +47,7 @@ pub(crate) fn assign_target(scripts: &Scripts, right: u32, site: Site, place: Pl
 
 /// Ends `=` with its value.
 #[tactic(auto, unfolding(crate::specs::After::after))]
+#[inline(always)]
 pub(crate) fn assign_value(
     alloc: Global,
     scripts: &Scripts,
@@ -69,6 +72,7 @@ pub(crate) fn assign_value(
 
 /// Begins `+=` and its kin.
 #[tactic(auto, unfolding(crate::specs::After::after, script_meaning::specs::Expressions::update_rule))]
+#[inline(always)]
 pub(crate) fn begin_update(
     scripts: &Scripts,
     operator: BinaryOperator,
@@ -90,6 +94,7 @@ pub(crate) fn begin_update(
 
 /// Goes on with the target of `+=` and its kin, which is read before the right side is evaluated.
 #[tactic(auto, unfolding(crate::specs::After::after), using(crate::proofs::PlaceLemmas::growth))]
+#[inline(always)]
 pub(crate) fn update_target(
     alloc: Global,
     scripts: &Scripts,
@@ -123,6 +128,7 @@ pub(crate) fn update_target(
 
 /// Ends `+=` and its kin with the right side.
 #[tactic(auto, unfolding(crate::specs::After::after), using(crate::proofs::PlaceLemmas::growth))]
+#[inline(always)]
 pub(crate) fn update_value(
     alloc: Global,
     scripts: &Scripts,
@@ -153,6 +159,7 @@ pub(crate) fn update_value(
 
 /// Begins `++` or `--`, before its operand or behind it.
 #[tactic(auto, unfolding(crate::specs::After::after, script_meaning::specs::Expressions::step_rule))]
+#[inline(always)]
 pub(crate) fn begin_step(
     scripts: &Scripts,
     operator: UnaryOperator,
@@ -181,6 +188,7 @@ fn given(before: bool, old: Value, new: Value) -> Value
 
 /// Writes the new value, and gives that or the old one.
 #[tactic(auto, using(crate::proofs::PlaceLemmas::growth))]
+#[inline(always)]
 fn write_step(
     alloc: Global,
     scripts: &Scripts,
@@ -208,6 +216,7 @@ fn write_step(
 
 /// Goes on with what the target of `++` or `--` has.
 #[tactic(auto, using(crate::proofs::PlaceLemmas::growth))]
+#[inline(always)]
 fn step_value(
     alloc: Global,
     scripts: &Scripts,
@@ -238,6 +247,7 @@ fn step_value(
 
 /// Ends `++` or `--` with its target.
 #[tactic(auto, unfolding(crate::specs::After::after), using(crate::proofs::PlaceLemmas::growth))]
+#[inline(always)]
 pub(crate) fn step_target(
     alloc: Global,
     scripts: &Scripts,

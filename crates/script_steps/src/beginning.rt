@@ -34,6 +34,7 @@ use std::alloc::Global;
 // ---- expressions
 
 /// Begins an operator by how it takes its operands.
+#[inline(always)]
 fn begin_operator(scripts: &Scripts, operator: Operator, node: u32, site: Site) -> Step
     ensures step { Waits scripts.now result (λ at s. operation (Some operator) scripts.now at ((form_at scripts.now site.script node).kids) site s) }
     ensures sound { (s : Store) → IsSoundSite s site → IsSoundStep s result }
@@ -48,6 +49,7 @@ fn begin_operator(scripts: &Scripts, operator: Operator, node: u32, site: Site) 
 }
 
 /// Begins an expression by an expression inside it; a form that is none is empty.
+#[inline(always)]
 fn begin_inside(scripts: &Scripts, kind: Kind, node: u32, site: Site) -> Step
     requires kind { BeginsInside kind }
     requires itself { IsThere kind → ((form_at scripts.now site.script node).head).number_of_node ≡ node }
@@ -71,6 +73,7 @@ fn begin_inside(scripts: &Scripts, kind: Kind, node: u32, site: Site) -> Step
 }
 
 /// Begins an expression for its value; a form that is none is empty.
+#[inline(always)]
 fn begin_value(
     alloc: Global,
     scripts: &Scripts,
@@ -107,6 +110,7 @@ fn begin_value(
 }
 
 /// Begins a callee for its function, and for what it is a member of.
+#[inline(always)]
 fn begin_callee(
     alloc: Global,
     scripts: &Scripts,
@@ -136,6 +140,7 @@ fn begin_callee(
 
 /// Begins the expression of an expression statement.
 #[tactic(auto, unfolding(crate::specs::After::after))]
+#[inline(always)]
 fn begin_expression(scripts: &Scripts, node: u32, site: Site) -> Step
     ensures step { Waits scripts.now result (λ at s. statement_by Kind.ExprStmt at (form_at scripts.now site.script node) site s) }
     ensures sound { (s : Store) → IsSoundSite s site → IsSoundStep s result }
@@ -145,6 +150,7 @@ fn begin_expression(scripts: &Scripts, node: u32, site: Site) -> Step
 }
 
 /// Begins a statement; a form that is none is empty.
+#[inline(always)]
 fn begin_statement(
     alloc: Global,
     scripts: &Scripts,
@@ -186,6 +192,7 @@ fn begin_statement(
 ///
 /// The step ends the form, waits for a node inside it, or calls a built-in function. Want of memory ends the form
 /// with `Abrupt::NoMemory`; the heap keeps what was made until then.
+#[inline(always)]
 pub fn begin(alloc: Global, scripts: &Scripts, heap: &mut Heap, inner: Inner) -> Step
     requires closed { IsClosed heap.old }
     requires site { IsSoundSite heap.old inner.site }

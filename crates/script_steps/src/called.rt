@@ -4,7 +4,6 @@ ghost use Rattle.std.specs.List.{All};
 ghost use Rattle.charged_heap.specs.Closed.{IsClosed, IsSoundValue};
 ghost use Rattle.charged_heap.specs.Growth.{Grows};
 ghost use Rattle.charged_heap.specs.Store.{Store, IsAt, IsScope, item_at};
-ghost use Rattle.js_trees.specs.Forms.{is_function_kind};
 ghost use Rattle.js_trees.specs.Tree.{kid};
 ghost use Rattle.charged_heap.specs.Ends.{IsSoundFail, Meets};
 ghost use Rattle.js_scopes.specs.Lists.{call_scope};
@@ -27,13 +26,6 @@ use std::alloc::Global;
 
 // ---- functions of scripts
 
-/// Whether a form is a function.
-fn is_function(kind: Kind) -> bool
-    ensures { result ≡ is_function_kind kind }
-{
-    matches!(kind, Kind::FunctionDecl | Kind::FunctionExpr | Kind::Arrow)
-}
-
 /// `this` in a function of this kind: that of the call, and in an arrow function the one that it keeps.
 fn this_of(kind: Kind, kept: Value, given: Value) -> Value
     ensures value { result ≡ this_of kind kept given }
@@ -47,6 +39,7 @@ fn this_of(kind: Kind, kept: Value, given: Value) -> Value
 
 /// A closure's node, and the site where it was made; none of all other items.
 #[tactic(auto, using(crate::proofs::CallLemmas::closure_sound))]
+#[inline(always)]
 fn closure_at(heap: &Heap, n: u32) -> Option<(u32, Site)>
     requires closed { IsClosed heap.now }
     requires function { IsSoundValue heap.now (Value.Item n) }
@@ -124,6 +117,7 @@ fn scope_of_call(
 
 /// Begins the body of a function: a list of statements, or an expression whose value is returned.
 #[tactic(auto, unfolding(crate::specs::After::after))]
+#[inline(always)]
 fn begin_body(scripts: &Scripts, body: u32, site: Site) -> Step
     ensures step { Waits scripts.now result (λ at s. body_rule (is_body ((form_at scripts.now site.script body).head).kind) at (form_at scripts.now site.script body) site s) }
     ensures sound { (s : Store) → IsSoundSite s site → IsSoundStep s result }
@@ -136,6 +130,7 @@ fn begin_body(scripts: &Scripts, body: u32, site: Site) -> Step
 
 /// Enters a function: makes the scope of its call, and begins its body there.
 #[tactic(auto, unfolding(script_meaning::specs::Functions::enter_rule), using(crate::proofs::CallLemmas::site_in))]
+#[inline(always)]
 fn enter(
     alloc: Global,
     scripts: &Scripts,
@@ -160,8 +155,9 @@ fn enter(
     }
 }
 
-/// Calls the closure of a node that was made at a site; its form has to be a function.
+/// Calls the closure of a node that was made at a site.
 #[tactic(auto, using(crate::proofs::CallLemmas::site_with))]
+#[inline(always)]
 fn call_closure(
     alloc: Global,
     scripts: &Scripts,
@@ -182,22 +178,20 @@ fn call_closure(
     ensures sound { IsSoundStep heap.new result }
 {
     let kind = kind_at(scripts, site.script, node);
-    if is_function(kind) {
-        let receiver = this_of(kind, site.receiver, receiver);
-        return enter(
-            alloc,
-            scripts,
-            heap,
-            node,
-            Site { receiver, ..site },
-            arguments,
-        );
-    }
-    of_heap(refuse_call(alloc, heap))
+    let receiver = this_of(kind, site.receiver, receiver);
+    enter(
+        alloc,
+        scripts,
+        heap,
+        node,
+        Site { receiver, ..site },
+        arguments,
+    )
 }
 
 /// Calls an item, which has to be a function of a script.
 #[tactic(auto, using(crate::proofs::CallLemmas::item_called))]
+#[inline(always)]
 fn call_item(
     alloc: Global,
     scripts: &Scripts,
@@ -230,6 +224,7 @@ fn call_item(
 /// Calls a value (ECMA-262, Call): a built-in function is left to the machine, which takes its tick;
 /// a function of a script is entered. All other values throw a new TypeError `not a function`.
 #[tactic(auto, unfolding(script_meaning::specs::Functions::call_rule))]
+#[inline(always)]
 pub(crate) fn call(
     alloc: Global,
     scripts: &Scripts,
@@ -264,6 +259,7 @@ pub(crate) fn call(
 
 /// Ends a call with its body's end: with what the body returns, and else with undefined.
 #[tactic(auto, unfolding(crate::specs::After::after))]
+#[inline(always)]
 pub(crate) fn body(scripts: &Scripts, end: Result<Ended, Abrupt>) -> Step
     ensures step { Waits scripts.now result (λ at s. after at scripts.now Frame.Body (end, s)) }
     ensures sound { (s : Store) → IsSoundEnd s end → IsSoundStep s result }

@@ -20,6 +20,7 @@ use std::alloc::Global;
 
 /// Begins a call, by its callee.
 #[tactic(auto, unfolding(crate::specs::After::after, script_meaning::specs::Expressions::called_rule))]
+#[inline(always)]
 pub(crate) fn begin_call(scripts: &Scripts, node: u32, site: Site) -> Step
     ensures step { Waits scripts.now result (λ at s. called_rule scripts.now at ((form_at scripts.now site.script node).kids) site s) }
     ensures sound { (s : Store) → IsSoundSite s site → IsSoundStep s result }
@@ -37,6 +38,7 @@ pub(crate) fn begin_call(scripts: &Scripts, node: u32, site: Site) -> Step
 
 /// Goes on with the arguments from a place on, behind those that are there.
 #[tactic(auto, unfolding(script_meaning::specs::Expressions::arguments_rule), using(js_trees::proofs::PartLemmas::parts_from))]
+#[inline(always)]
 fn arguments_from(
     alloc: Global,
     scripts: &Scripts,
@@ -74,6 +76,7 @@ fn arguments_from(
 
 /// Goes on with the arguments behind the one at a place.
 #[tactic(auto, unfolding(script_meaning::specs::Expressions::arguments_rule), using(js_trees::proofs::PartLemmas::parts_from))]
+#[inline(always)]
 fn arguments_behind(
     alloc: Global,
     scripts: &Scripts,
@@ -112,6 +115,7 @@ fn arguments_behind(
 
 /// Goes on with a callee that was read from a member of its receiver.
 #[tactic(auto, unfolding(crate::specs::After::after))]
+#[inline(always)]
 pub(crate) fn callee_member(
     alloc: Global,
     scripts: &Scripts,
@@ -140,6 +144,7 @@ pub(crate) fn callee_member(
 
 /// Goes on with a callee that is no member: its receiver is undefined.
 #[tactic(auto, unfolding(crate::specs::After::after))]
+#[inline(always)]
 pub(crate) fn callee(
     alloc: Global,
     scripts: &Scripts,
@@ -163,6 +168,7 @@ pub(crate) fn callee(
 
 /// Goes on with an argument behind those before it.
 #[tactic(auto, unfolding(crate::specs::After::after), using(crate::proofs::CallLemmas::with_argument))]
+#[inline(always)]
 pub(crate) fn argument(
     alloc: Global,
     scripts: &Scripts,

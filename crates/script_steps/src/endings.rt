@@ -28,6 +28,7 @@ pub(crate) fn value_in(end: Ended) -> Option<Value>
 
 /// The statements of a list behind a place.
 #[tactic(auto, unfolding(script_meaning::specs::Statements::list_rule), using(js_trees::proofs::PartLemmas::parts_from))]
+#[inline(always)]
 fn list_behind(scripts: &Scripts, node: u32, place: u32, last: Option<Value>, site: Site) -> Step
     ensures step { Waits scripts.now result (λ at s. list_rule at (kids_from (suc place) ((form_at scripts.now site.script node).kids)) site last s) }
     ensures sound { (s : Store) → IsSoundSite s site → IfSome last (IsSoundValue s) → IsSoundStep s result }
@@ -40,6 +41,7 @@ fn list_behind(scripts: &Scripts, node: u32, place: u32, last: Option<Value>, si
 
 /// Goes on with a list behind a statement that has ended. A `break` or `continue` takes the last value along.
 #[tactic(auto, unfolding(crate::specs::After::after))]
+#[inline(always)]
 pub(crate) fn list(
     scripts: &Scripts,
     node: u32,
@@ -61,6 +63,7 @@ pub(crate) fn list(
 
 /// Ends an `if` or a `try` with the end of what it chose, whose value is undefined where it has none.
 #[tactic(auto, unfolding(crate::specs::After::after))]
+#[inline(always)]
 pub(crate) fn filled(scripts: &Scripts, end: Result<Ended, Abrupt>) -> Step
     ensures step { Waits scripts.now result (λ at s. after at scripts.now Frame.Filled (end, s)) }
     ensures sound { (s : Store) → IsSoundEnd s end → IsSoundStep s result }

@@ -11,6 +11,7 @@ use charged_heap::{Fail, Value};
 use script_meaning::{Abrupt, Ended, StopCause};
 
 /// A failure over the heap, as the end of a node.
+#[inline(always)]
 pub fn abrupt_of(fail: Fail) -> Abrupt
     ensures { result ≡ abrupt_of fail }
 {
@@ -22,6 +23,7 @@ pub fn abrupt_of(fail: Fail) -> Abrupt
 }
 
 /// The end of a form that gives what a call over the heap gave.
+#[inline(always)]
 pub fn of_heap(given: Result<Value, Fail>) -> Step
     ensures step { result ≡ Step.Ended (end_of given) }
     ensures sound { (s : Store) → IsSoundResult s given → IsSoundStep s result }

@@ -41,6 +41,7 @@ fn make_closure(heap: &mut Heap, node: u32, site: Site, receiver: Value) -> Resu
 }
 
 /// Makes an arrow function, which keeps `this`.
+#[inline(always)]
 pub(crate) fn arrow(scripts: &Scripts, heap: &mut Heap, node: u32, site: Site) -> Step
     requires itself { ((form_at scripts.now site.script node).head).number_of_node ≡ node }
     requires site { IsSoundSite heap.old site }
@@ -81,6 +82,7 @@ fn make_named(
 
 /// Makes a function by a function expression, with a name of its own or without.
 #[tactic(auto, using(crate::proofs::CallLemmas::function_unnamed))]
+#[inline(always)]
 pub(crate) fn function(
     alloc: Global,
     scripts: &Scripts,

@@ -19,6 +19,7 @@ use std::alloc::Global;
 
 /// Begins `throw`.
 #[tactic(auto, unfolding(crate::specs::After::after, script_meaning::specs::Handlers::throw_rule))]
+#[inline(always)]
 pub(crate) fn begin_throw(scripts: &Scripts, node: u32, site: Site) -> Step
     ensures step { Waits scripts.now result (λ at s. throw_rule at ((form_at scripts.now site.script node).kids) site s) }
     ensures sound { (s : Store) → IsSoundSite s site → IsSoundStep s result }
@@ -29,6 +30,7 @@ pub(crate) fn begin_throw(scripts: &Scripts, node: u32, site: Site) -> Step
 
 /// Begins `try`.
 #[tactic(auto, unfolding(crate::specs::After::after, script_meaning::specs::Handlers::try_rule))]
+#[inline(always)]
 pub(crate) fn begin_try(scripts: &Scripts, node: u32, site: Site) -> Step
     ensures step { Waits scripts.now result (λ at s. try_rule at (form_at scripts.now site.script node) site s) }
     ensures sound { (s : Store) → IsSoundSite s site → IsSoundStep s result }
@@ -40,6 +42,7 @@ pub(crate) fn begin_try(scripts: &Scripts, node: u32, site: Site) -> Step
 /// Goes on with a `try` whose block or whose `catch` has ended so: it waits for its `finally`, where it has one
 /// and wasn't stopped, and ends else.
 #[tactic(auto, unfolding(crate::specs::After::after))]
+#[inline(always)]
 pub(crate) fn finish(scripts: &Scripts, node: u32, site: Site, end: Result<Ended, Abrupt>) -> Step
     ensures step { Waits scripts.now result (λ at s. after at scripts.now (Frame.Catch node site) (end, s)) }
     ensures sound { (s : Store) → IsSoundSite s site → IsSoundEnd s end → IsSoundStep s result }
@@ -57,6 +60,7 @@ pub(crate) fn finish(scripts: &Scripts, node: u32, site: Site, end: Result<Ended
 
 /// Begins the `catch` of a `try`, in a scope of its name where it has one.
 #[tactic(auto, unfolding(crate::specs::After::after), using(crate::proofs::Growing::growing, crate::proofs::CallLemmas::site_in))]
+#[inline(always)]
 fn handle(
     alloc: Global,
     scripts: &Scripts,
@@ -94,6 +98,7 @@ fn handle(
 
 /// Goes on with a `try` whose block has ended: what was thrown goes to its `catch`, where it has one.
 #[tactic(auto, unfolding(crate::specs::After::after), using(crate::proofs::Growing::growing))]
+#[inline(always)]
 pub(crate) fn tried(
     alloc: Global,
     scripts: &Scripts,
@@ -123,6 +128,7 @@ pub(crate) fn tried(
 
 /// Ends a `try` whose `finally` has ended: with the end before, unless the `finally` ended abruptly itself.
 #[tactic(auto, unfolding(crate::specs::After::after))]
+#[inline(always)]
 pub(crate) fn finished(
     scripts: &Scripts,
     before: Result<Ended, Abrupt>,

@@ -20,6 +20,7 @@ use script_meaning::{Ended, Place, Site};
 use std::alloc::Global;
 
 /// Ends a form with a value.
+#[inline(always)]
 fn gives(value: Value) -> Step
     ensures { result ≡ Step.Ended (Ok (Ended.Value value)) }
 {
@@ -44,6 +45,7 @@ fn make_literal(
 }
 
 /// Evaluates a text, which is a new string at each evaluation.
+#[inline(always)]
 fn text(alloc: Global, scripts: &Scripts, heap: &mut Heap, node: u32, site: Site) -> Step
     ensures step { Steps scripts.now result heap.old heap.new (λ at s. value_by Kind.Text scripts.now at (form_at scripts.now site.script node) site s) }
     ensures grown { Grows heap.old heap.new }
@@ -55,6 +57,7 @@ fn text(alloc: Global, scripts: &Scripts, heap: &mut Heap, node: u32, site: Site
 
 /// Evaluates a name.
 #[tactic(auto, unfolding(script_meaning::specs::Places::place_read))]
+#[inline(always)]
 fn name(alloc: Global, scripts: &Scripts, heap: &mut Heap, node: u32, site: Site) -> Step
     requires heap { IsClosed heap.old }
     requires site { IsSoundSite heap.old site }
@@ -67,6 +70,7 @@ fn name(alloc: Global, scripts: &Scripts, heap: &mut Heap, node: u32, site: Site
 }
 
 /// Evaluates an expression in which no node stands.
+#[inline(always)]
 pub(crate) fn leaf(
     alloc: Global,
     scripts: &Scripts,

@@ -25,6 +25,7 @@ use std::alloc::Global;
 
 /// Goes on with an array from the element at a place on.
 #[tactic(auto, unfolding(crate::specs::After::after, script_meaning::specs::Expressions::elements_rule), using(js_trees::proofs::PartLemmas::parts_from, crate::proofs::CallLemmas::array_held))]
+#[inline(always)]
 fn elements_from(scripts: &Scripts, node: u32, place: u32, array: u32, site: Site) -> Step
     ensures step { Waits scripts.now result (λ at s. elements_rule at array (kids_from place ((form_at scripts.now site.script node).kids)) site s) }
     ensures sound { (s : Store) → IsAt IsArray s array → IsSoundSite s site → IsSoundStep s result }
@@ -44,6 +45,7 @@ fn elements_from(scripts: &Scripts, node: u32, place: u32, array: u32, site: Sit
 
 /// Goes on with an array behind the element at a place.
 #[tactic(auto, using(js_trees::proofs::PartLemmas::parts_from, crate::proofs::CallLemmas::array_held), unfolding(script_meaning::specs::Expressions::elements_rule))]
+#[inline(always)]
 fn elements_behind(scripts: &Scripts, node: u32, place: u32, array: u32, site: Site) -> Step
     ensures step { Waits scripts.now result (λ at s. elements_rule at array (kids_from (suc place) ((form_at scripts.now site.script node).kids)) site s) }
     ensures sound { (s : Store) → IsAt IsArray s array → IsSoundSite s site → IsSoundStep s result }
@@ -71,6 +73,7 @@ fn add_element(alloc: Global, heap: &mut Heap, array: u32, value: Value) -> Resu
 
 /// Adds an element to its array, and goes on with the next.
 #[tactic(auto, unfolding(crate::specs::After::after), using(crate::proofs::Growing::site_grows))]
+#[inline(always)]
 pub(crate) fn element(
     alloc: Global,
     scripts: &Scripts,
@@ -99,6 +102,7 @@ pub(crate) fn element(
 
 /// Begins an array: it is made before its first element is evaluated.
 #[tactic(auto, unfolding(script_meaning::specs::Expressions::array_rule), using(crate::proofs::CallLemmas::made_value, crate::proofs::CallLemmas::made_refused, crate::proofs::Growing::site_grows))]
+#[inline(always)]
 pub(crate) fn begin_array(
     alloc: Global,
     scripts: &Scripts,
@@ -137,6 +141,7 @@ fn property_count(scripts: &Scripts, script: u32, node: u32) -> u32
 
 /// Goes on with an object from the property at a place on.
 #[tactic(auto, using(crate::proofs::CallLemmas::plain_held, crate::proofs::CallLemmas::properties_end))]
+#[inline(always)]
 fn properties_from(scripts: &Scripts, node: u32, place: u32, object: u32, site: Site) -> Step
     ensures step { Waits scripts.now result (λ at s. properties_rule at object (drop place ((form_at scripts.now site.script node).head).names) (kids_from place ((form_at scripts.now site.script node).kids)) site s) }
     ensures sound { (s : Store) → IsAt IsPlain s object → IsSoundSite s site → IsSoundStep s result }
@@ -156,6 +161,7 @@ fn properties_from(scripts: &Scripts, node: u32, place: u32, object: u32, site: 
 
 /// Goes on with an object behind the property at a place.
 #[tactic(auto, using(crate::proofs::CallLemmas::plain_held, crate::proofs::CallLemmas::properties_ended))]
+#[inline(always)]
 fn properties_behind(scripts: &Scripts, node: u32, place: u32, object: u32, site: Site) -> Step
     ensures step { Waits scripts.now result (λ at s. properties_rule at object (drop (suc place) ((form_at scripts.now site.script node).head).names) (kids_from (suc place) ((form_at scripts.now site.script node).kids)) site s) }
     ensures sound { (s : Store) → IsAt IsPlain s object → IsSoundSite s site → IsSoundStep s result }
@@ -193,6 +199,7 @@ fn add_property(
 
 /// Gives an object a property, and goes on with the next.
 #[tactic(auto, unfolding(crate::specs::After::after), using(crate::proofs::Growing::site_grows))]
+#[inline(always)]
 pub(crate) fn property(
     alloc: Global,
     scripts: &Scripts,
@@ -235,6 +242,7 @@ fn make_object(alloc: Global, heap: &mut Heap) -> Result<u32, Fail>
 
 /// Begins an object: it is made before its first property is evaluated.
 #[tactic(auto, unfolding(script_meaning::specs::Expressions::object_rule), using(crate::proofs::CallLemmas::made_value, crate::proofs::CallLemmas::made_refused, crate::proofs::Growing::site_grows))]
+#[inline(always)]
 pub(crate) fn begin_object(
     alloc: Global,
     scripts: &Scripts,

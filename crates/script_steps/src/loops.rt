@@ -28,6 +28,7 @@ use std::alloc::Global;
 
 /// Begins a round: the loop waits for its test, and where that is left out for its body.
 #[tactic(auto, using(crate::proofs::LoopLemmas::turns))]
+#[inline(always)]
 fn begin_round(scripts: &Scripts, parts: LoopParts, last: Option<Value>, site: Site) -> Step
     ensures step { (s : Store) → Turns scripts.now result s s (λ at s. loop_rule at (loop_of scripts.now site.script parts) last site s) }
     ensures sound { (s : Store) → IsSoundSite s site → IfSome last (IsSoundValue s) → IsSoundStep s result }
@@ -40,6 +41,7 @@ fn begin_round(scripts: &Scripts, parts: LoopParts, last: Option<Value>, site: S
 }
 
 /// Ends a loop with its last value, and with undefined without one.
+#[inline(always)]
 fn end_loop(last: Option<Value>) -> Step
     ensures step { result ≡ Step.Ended (Ok (ended_with (or_undefined last))) }
     ensures sound { (s : Store) → IfSome last (IsSoundValue s) → IsSoundStep s result }
@@ -49,6 +51,7 @@ fn end_loop(last: Option<Value>) -> Step
 
 /// Goes on with the value of a loop's test.
 #[tactic(auto, unfolding(crate::specs::After::after))]
+#[inline(always)]
 pub(crate) fn loop_tested(
     scripts: &Scripts,
     heap: &Heap,
@@ -86,6 +89,7 @@ fn copy_scope(alloc: Global, heap: &mut Heap, scope: u32) -> Result<u32, Fail>
 
 /// Where a round stands: in a copy of the scope of the one before, where each round has its own.
 #[tactic(auto, using(crate::proofs::Growing::growing, crate::proofs::CallLemmas::site_in))]
+#[inline(always)]
 fn round_site(alloc: Global, heap: &mut Heap, fresh: bool, site: Site) -> Result<Site, Fail>
     requires closed { IsClosed heap.old }
     requires site { IsSoundSite heap.old site }
@@ -107,6 +111,7 @@ fn round_site(alloc: Global, heap: &mut Heap, fresh: bool, site: Site) -> Result
 
 /// Goes on from a round's body to the next round: by the update, where there is one.
 #[tactic(auto, unfolding(crate::specs::After::after), using(crate::proofs::Growing::growing))]
+#[inline(always)]
 fn next_round(
     alloc: Global,
     scripts: &Scripts,
@@ -144,6 +149,7 @@ fn next_round(
 
 /// Goes on with a loop whose body has ended: a `break` ends it, and a `continue` ends its round alone.
 #[tactic(auto, unfolding(crate::specs::After::after))]
+#[inline(always)]
 pub(crate) fn loop_body(
     alloc: Global,
     scripts: &Scripts,
@@ -180,6 +186,7 @@ pub(crate) fn loop_body(
 
 /// Goes on with a loop whose update has ended: the next round begins.
 #[tactic(auto, unfolding(crate::specs::After::after))]
+#[inline(always)]
 pub(crate) fn loop_updated(
     scripts: &Scripts,
     parts: LoopParts,
@@ -198,6 +205,7 @@ pub(crate) fn loop_updated(
 
 /// Begins `while`.
 #[tactic(auto, unfolding(script_meaning::specs::Loops::while_rule))]
+#[inline(always)]
 pub(crate) fn begin_while(scripts: &Scripts, node: u32, site: Site) -> Step
     ensures step { (s : Store) → Turns scripts.now result s s (λ at s. while_rule at ((form_at scripts.now site.script node).kids) site s) }
     ensures sound { (s : Store) → IsSoundSite s site → IsSoundStep s result }
@@ -246,6 +254,7 @@ fn for_parts(scripts: &Scripts, script: u32, node: u32) -> LoopParts
 
 /// Begins the first round of a `for`, in a scope of its own where each round has one.
 #[tactic(auto, using(crate::proofs::Growing::growing))]
+#[inline(always)]
 fn begin_rounds(
     alloc: Global,
     scripts: &Scripts,
@@ -270,6 +279,7 @@ fn begin_rounds(
 
 /// Goes on with a `for` whose head has ended.
 #[tactic(auto, unfolding(crate::specs::After::after))]
+#[inline(always)]
 pub(crate) fn loop_headed(
     alloc: Global,
     scripts: &Scripts,
@@ -296,6 +306,7 @@ pub(crate) fn loop_headed(
 
 /// Begins the head of a `for`: a declaration is carried out, and an expression evaluated.
 #[tactic(auto, unfolding(crate::specs::After::after))]
+#[inline(always)]
 fn begin_head(
     alloc: Global,
     scripts: &Scripts,
@@ -324,6 +335,7 @@ fn begin_head(
 
 /// Begins `for`: where its head declares names, it has a scope of them.
 #[tactic(auto, unfolding(script_meaning::specs::Loops::for_rule), using(crate::proofs::Growing::growing, crate::proofs::CallLemmas::site_in))]
+#[inline(always)]
 pub(crate) fn begin_for(
     alloc: Global,
     scripts: &Scripts,

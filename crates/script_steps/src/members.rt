@@ -20,6 +20,7 @@ use script_meaning::{Ended, Key, Place, Role, Site};
 use std::alloc::Global;
 
 /// Ends a callee that was read from a member.
+#[inline(always)]
 fn of_callee(given: Result<Value, Fail>, receiver: Value) -> Step
     ensures { result ≡ Step.Ended (callee_end given receiver) }
 {
@@ -33,6 +34,7 @@ fn of_callee(given: Result<Value, Fail>, receiver: Value) -> Step
 
 /// Begins `object.name`.
 #[tactic(auto, unfolding(crate::specs::After::after, script_meaning::specs::Expressions::member_rule))]
+#[inline(always)]
 pub(crate) fn begin_member(scripts: &Scripts, role: Role, node: u32, site: Site) -> Step
     requires { ((form_at scripts.now site.script node).head).number_of_node ≡ node }
     ensures step { Waits scripts.now result (λ at s. member_rule role at (form_at scripts.now site.script node) site s) }
@@ -49,6 +51,7 @@ pub(crate) fn begin_member(scripts: &Scripts, role: Role, node: u32, site: Site)
 
 /// Ends a member with its object.
 #[tactic(auto, unfolding(crate::specs::After::after), using(crate::proofs::PlaceLemmas::growth))]
+#[inline(always)]
 pub(crate) fn member(
     alloc: Global,
     scripts: &Scripts,
@@ -84,6 +87,7 @@ pub(crate) fn member(
 
 /// Begins `object[key]`.
 #[tactic(auto, unfolding(crate::specs::After::after, script_meaning::specs::Expressions::index_rule))]
+#[inline(always)]
 pub(crate) fn begin_index(scripts: &Scripts, role: Role, node: u32, site: Site) -> Step
     ensures step { Waits scripts.now result (λ at s. index_rule role at ((form_at scripts.now site.script node).kids) site s) }
     ensures sound { (s : Store) → IsSoundSite s site → IsSoundStep s result }
@@ -95,6 +99,7 @@ pub(crate) fn begin_index(scripts: &Scripts, role: Role, node: u32, site: Site) 
 
 /// Goes on with the object of a computed member.
 #[tactic(auto, unfolding(crate::specs::After::after))]
+#[inline(always)]
 pub(crate) fn index_object(
     scripts: &Scripts,
     role: Role,
@@ -111,6 +116,7 @@ pub(crate) fn index_object(
 
 /// Ends a computed member whose key is one.
 #[tactic(auto, using(crate::proofs::PlaceLemmas::growth))]
+#[inline(always)]
 fn computed(
     alloc: Global,
     scripts: &Scripts,
@@ -140,6 +146,7 @@ fn computed(
 
 /// Ends a computed member with its key.
 #[tactic(auto, unfolding(crate::specs::After::after), using(crate::proofs::PlaceLemmas::no_key, crate::proofs::PlaceLemmas::a_key))]
+#[inline(always)]
 pub(crate) fn index_key(
     alloc: Global,
     scripts: &Scripts,
@@ -167,6 +174,7 @@ pub(crate) fn index_key(
 
 /// Ends `typeof` of a name with its place.
 #[tactic(auto, unfolding(crate::specs::After::after))]
+#[inline(always)]
 pub(crate) fn type_of(
     alloc: Global,
     scripts: &Scripts,

@@ -21,6 +21,7 @@ use std::alloc::Global;
 
 /// Begins `a, b`.
 #[tactic(auto, unfolding(crate::specs::After::after, script_meaning::specs::Expressions::comma_rule))]
+#[inline(always)]
 pub(crate) fn begin_comma(scripts: &Scripts, node: u32, site: Site) -> Step
     ensures step { Waits scripts.now result (λ at s. comma_rule at ((form_at scripts.now site.script node).kids) site s) }
     ensures sound { (s : Store) → IsSoundSite s site → IsSoundStep s result }
@@ -32,6 +33,7 @@ pub(crate) fn begin_comma(scripts: &Scripts, node: u32, site: Site) -> Step
 
 /// Begins an operator of two operands.
 #[tactic(auto, unfolding(crate::specs::After::after, script_meaning::specs::Expressions::binary_rule))]
+#[inline(always)]
 pub(crate) fn begin_binary(
     scripts: &Scripts,
     operator: BinaryOperator,
@@ -53,6 +55,7 @@ pub(crate) fn begin_binary(
 
 /// Goes on with the left operand.
 #[tactic(auto, unfolding(crate::specs::After::after))]
+#[inline(always)]
 pub(crate) fn left(
     scripts: &Scripts,
     operator: BinaryOperator,
@@ -69,6 +72,7 @@ pub(crate) fn left(
 
 /// Ends an operator with its right operand.
 #[tactic(auto, unfolding(crate::specs::After::after))]
+#[inline(always)]
 pub(crate) fn right(
     alloc: Global,
     scripts: &Scripts,
@@ -92,6 +96,7 @@ pub(crate) fn right(
 
 /// Begins an operator of one operand.
 #[tactic(auto, unfolding(crate::specs::After::after, script_meaning::specs::Expressions::unary_rule))]
+#[inline(always)]
 pub(crate) fn begin_unary(scripts: &Scripts, operator: UnaryOperator, node: u32, site: Site) -> Step
     ensures step { Waits scripts.now result (λ at s. unary_rule operator at ((form_at scripts.now site.script node).kids) site s) }
     ensures sound { (s : Store) → IsSoundSite s site → IsSoundStep s result }
@@ -102,6 +107,7 @@ pub(crate) fn begin_unary(scripts: &Scripts, operator: UnaryOperator, node: u32,
 
 /// Begins `typeof`, which asks for the place alone where its operand is a name.
 #[tactic(auto, unfolding(crate::specs::After::after, script_meaning::specs::Expressions::typeof_rule, script_meaning::specs::Expressions::unary_rule))]
+#[inline(always)]
 pub(crate) fn begin_typeof(scripts: &Scripts, node: u32, site: Site) -> Step
     ensures step { Waits scripts.now result (λ at s. typeof_rule scripts.now at ((form_at scripts.now site.script node).kids) site s) }
     ensures sound { (s : Store) → IsSoundSite s site → IsSoundStep s result }
@@ -115,6 +121,7 @@ pub(crate) fn begin_typeof(scripts: &Scripts, node: u32, site: Site) -> Step
 
 /// Begins `void`.
 #[tactic(auto, unfolding(crate::specs::After::after, script_meaning::specs::Expressions::void_rule))]
+#[inline(always)]
 pub(crate) fn begin_void(scripts: &Scripts, node: u32, site: Site) -> Step
     ensures step { Waits scripts.now result (λ at s. void_rule at ((form_at scripts.now site.script node).kids) site s) }
     ensures sound { (s : Store) → IsSoundSite s site → IsSoundStep s result }
@@ -125,6 +132,7 @@ pub(crate) fn begin_void(scripts: &Scripts, node: u32, site: Site) -> Step
 
 /// Ends an operator with its operand.
 #[tactic(auto, unfolding(crate::specs::After::after))]
+#[inline(always)]
 pub(crate) fn operand(
     alloc: Global,
     scripts: &Scripts,
@@ -146,6 +154,7 @@ pub(crate) fn operand(
 
 /// Begins `?:`.
 #[tactic(auto, unfolding(crate::specs::After::after, script_meaning::specs::Expressions::condition_rule))]
+#[inline(always)]
 pub(crate) fn begin_condition(scripts: &Scripts, node: u32, site: Site) -> Step
     ensures step { Waits scripts.now result (λ at s. condition_rule at ((form_at scripts.now site.script node).kids) site s) }
     ensures sound { (s : Store) → IsSoundSite s site → IsSoundStep s result }
@@ -158,6 +167,7 @@ pub(crate) fn begin_condition(scripts: &Scripts, node: u32, site: Site) -> Step
 
 /// Begins `&&`, `||` or `??`.
 #[tactic(auto, unfolding(crate::specs::After::after, script_meaning::specs::Expressions::logical_rule))]
+#[inline(always)]
 pub(crate) fn begin_logical(scripts: &Scripts, operator: Kind, node: u32, site: Site) -> Step
     ensures step { Waits scripts.now result (λ at s. logical_rule operator at ((form_at scripts.now site.script node).kids) site s) }
     ensures sound { (s : Store) → IsSoundSite s site → IsSoundStep s result }
@@ -174,6 +184,7 @@ pub(crate) fn begin_logical(scripts: &Scripts, operator: Kind, node: u32, site: 
 
 /// Goes on with the condition of `?:`.
 #[tactic(auto, unfolding(crate::specs::After::after))]
+#[inline(always)]
 pub(crate) fn condition(
     scripts: &Scripts,
     heap: &Heap,
@@ -205,6 +216,7 @@ fn goes_right(heap: &Heap, operator: Kind, left: Value) -> bool
 
 /// Goes on with the left operand of `&&`, `||` or `??`, which is what they give where it decides.
 #[tactic(auto, unfolding(crate::specs::After::after))]
+#[inline(always)]
 pub(crate) fn logical(
     scripts: &Scripts,
     heap: &Heap,

@@ -27,6 +27,7 @@ use std::alloc::Global;
 
 /// Goes on with a value that is no operand.
 #[tactic(auto, unfolding(crate::specs::After::after), using(crate::proofs::Passing::passing))]
+#[inline(always)]
 fn resume_further(
     alloc: Global,
     scripts: &Scripts,
@@ -100,6 +101,7 @@ fn resume_further(
 
 /// Goes on with a value; one for which the form doesn't wait is its end.
 #[tactic(auto, unfolding(crate::specs::After::after), using(crate::proofs::Passing::passing))]
+#[inline(always)]
 fn resume_value(
     alloc: Global,
     scripts: &Scripts,
@@ -143,6 +145,7 @@ fn resume_value(
 
 /// Goes on with a place; one for which the form doesn't wait is its end.
 #[tactic(auto, unfolding(crate::specs::After::after), using(crate::proofs::Passing::passing))]
+#[inline(always)]
 fn resume_place(
     alloc: Global,
     scripts: &Scripts,
@@ -180,6 +183,7 @@ fn resume_place(
 
 /// Goes on with a callee that is a member; for all other forms that is their end.
 #[tactic(auto, unfolding(crate::specs::After::after), using(crate::proofs::Passing::passing))]
+#[inline(always)]
 fn resume_member(
     alloc: Global,
     scripts: &Scripts,
@@ -210,6 +214,7 @@ fn resume_member(
 
 /// Goes on with the end of an expression; an abrupt one is the end of the form.
 #[tactic(auto, using(crate::proofs::Passing::passing))]
+#[inline(always)]
 fn resume_form(
     alloc: Global,
     scripts: &Scripts,

@@ -34,6 +34,7 @@ pub(crate) fn latest(value: Option<Value>, last: Option<Value>) -> Option<Value>
 }
 
 /// A statement that has a value, or none.
+#[inline(always)]
 pub(crate) fn ended_with(value: Option<Value>) -> Ended
     ensures { result ≡ ended_with value }
 {
@@ -54,6 +55,7 @@ pub(crate) fn or_undefined(value: Option<Value>) -> Option<Value>
 
 /// The statements of a list from a place on, where the last value so far is this one.
 #[tactic(auto, unfolding(script_meaning::specs::Statements::list_rule), using(js_trees::proofs::PartLemmas::parts_from, crate::proofs::ListLemmas::lists))]
+#[inline(always)]
 pub(crate) fn list_from(
     scripts: &Scripts,
     node: u32,
@@ -80,6 +82,7 @@ pub(crate) fn list_from(
 
 /// Begins a block: where it declares something it has a scope of its own.
 #[tactic(auto, unfolding(script_meaning::specs::Statements::block_rule), using(crate::proofs::Growing::growing))]
+#[inline(always)]
 pub(crate) fn begin_block(
     alloc: Global,
     scripts: &Scripts,
@@ -156,6 +159,7 @@ fn leave_undefined(
 
 /// Waits for the initialiser of the name at a place.
 #[tactic(auto, unfolding(crate::specs::After::after), using(crate::proofs::ListLemmas::declaration_waits))]
+#[inline(always)]
 fn await_value(scripts: &Scripts, node: u32, place: u32, site: Site, initialiser: u32) -> Step
     requires part { place < kid_count ((form_at scripts.now site.script node).kids) }
     requires named { place < length ((form_at scripts.now site.script node).head).names }
@@ -196,6 +200,7 @@ fn leave_all_undefined(scripts: &Scripts, heap: &mut Heap, node: u32, place: u32
 
 /// The names of a `let` or `const` from a place on. A name without an initialiser gets undefined at once.
 #[tactic(auto, using(crate::proofs::Growing::growing, crate::proofs::ListLemmas::ends))]
+#[inline(always)]
 pub(crate) fn declare_from(
     scripts: &Scripts,
     heap: &mut Heap,
@@ -222,6 +227,7 @@ pub(crate) fn declare_from(
 
 /// The names behind a place.
 #[tactic(auto, using(crate::proofs::ListLemmas::behind))]
+#[inline(always)]
 fn declare_behind(scripts: &Scripts, heap: &mut Heap, node: u32, place: u32, site: Site) -> Step
     requires { IsSoundSite heap.old site }
     ensures step { Steps scripts.now result heap.old heap.new (λ at s. declare_rule at (drop (suc place) ((form_at scripts.now site.script node).head).names) (kids_from (suc place) ((form_at scripts.now site.script node).kids)) site s) }
@@ -261,6 +267,7 @@ fn initialise_at(
 
 /// Gives the name at the place its value, and goes on with the names behind it.
 #[tactic(auto, unfolding(crate::specs::After::after))]
+#[inline(always)]
 pub(crate) fn declarator(
     alloc: Global,
     scripts: &Scripts,
@@ -285,6 +292,7 @@ pub(crate) fn declarator(
 
 /// Begins `if`.
 #[tactic(auto, unfolding(crate::specs::After::after, script_meaning::specs::Statements::if_rule))]
+#[inline(always)]
 pub(crate) fn begin_if(scripts: &Scripts, node: u32, site: Site) -> Step
     ensures step { Waits scripts.now result (λ at s. if_rule at ((form_at scripts.now site.script node).kids) site s) }
     ensures sound { (s : Store) → IsSoundSite s site → IsSoundStep s result }
@@ -297,6 +305,7 @@ pub(crate) fn begin_if(scripts: &Scripts, node: u32, site: Site) -> Step
 
 /// Goes on with the condition of an `if`.
 #[tactic(auto, unfolding(crate::specs::After::after))]
+#[inline(always)]
 pub(crate) fn if_chosen(
     scripts: &Scripts,
     heap: &Heap,
@@ -320,6 +329,7 @@ pub(crate) fn if_chosen(
 
 /// Begins `return`.
 #[tactic(auto, unfolding(crate::specs::After::after, script_meaning::specs::Statements::return_rule))]
+#[inline(always)]
 pub(crate) fn begin_return(scripts: &Scripts, node: u32, site: Site) -> Step
     ensures step { Waits scripts.now result (λ at s. return_rule at ((form_at scripts.now site.script node).kids) site s) }
     ensures sound { (s : Store) → IsSoundSite s site → IsSoundStep s result }

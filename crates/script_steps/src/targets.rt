@@ -12,6 +12,7 @@ use js_syntax::{Kind, Scripts};
 use script_meaning::{Ended, Place, Role, Site};
 
 /// Ends a target that is a name with its place.
+#[inline(always)]
 fn target_name(scripts: &Scripts, node: u32, site: Site) -> Step
     requires { ((form_at scripts.now site.script node).head).number_of_node ≡ node }
     ensures step { Waits scripts.now result (λ at s. target_by Kind.Name at (form_at scripts.now site.script node) site s) }
@@ -23,6 +24,7 @@ fn target_name(scripts: &Scripts, node: u32, site: Site) -> Step
 }
 
 /// Begins a target for its place; a form that is none is empty.
+#[inline(always)]
 pub(crate) fn begin_target(scripts: &Scripts, kind: Kind, node: u32, site: Site) -> Step
     requires { IsThere kind → ((form_at scripts.now site.script node).head).number_of_node ≡ node }
     ensures step { Waits scripts.now result (λ at s. target_by kind at (form_at scripts.now site.script node) site s) }
