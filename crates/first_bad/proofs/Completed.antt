@@ -8,10 +8,10 @@ use Rattle.parser_rules.specs.declared.form.Why.{Why}
 use Rattle.parser_rules.specs.Work.{stuck}
 use Rattle.parser_rules.specs.Rules.{Rule, run}
 use Rattle.parser_rules.specs.Grammar.{within, rule_of, reading, refused_at_limit}
-use Rattle.first_bad.specs.Viable.{Viable}
+use Rattle.first_bad.specs.Viable.{Reads, Viable}
 use Rattle.first_bad.proofs.Deeper.{within_deeper}
 use Rattle.first_bad.proofs.FirmTable.{within_firmly}
-use Rattle.first_bad.proofs.Marks.{edge, tokens_of, Marks, has}
+use Rattle.first_bad.proofs.Marks.{Mark, edge, tokens_of, Marks, has}
 use Rattle.first_bad.proofs.Facts.{Start, start, again, finish, follows, form_start, nothing_starts_inside}
 use Rattle.first_bad.proofs.Starts.{Starts, run_starts, nothing_begins}
 use Rattle.first_bad.proofs.AgainRules.{AgainOn, run_again}
@@ -70,11 +70,19 @@ pub record Whole (whole : Rule) : Type 0 where
   pub starts : has ((start form_start None whole).before) edge ≡ true
   pub finishes : has (finish form_start whole) edge ≡ true
 
-pub before_viable : (whole : Rule) → Whole whole → (levels : ℕ) (before us : List Token) (why : Why) → reading levels whole (before ++ us) ≡ stuck why us → Viable whole before
-before_viable whole h levels [] us why e =
+-- a text that begins so, and goes on with tokens of marks alone
+pub record Completed (whole : Rule) (before : List Token) : Type 0 where
+  pub marks : List Mark
+  pub reads : Reads whole (before ++ tokens_of marks [])
+
+pub before_completed : (whole : Rule) → Whole whole → (levels : ℕ) (before us : List Token) (why : Why) → reading levels whole (before ++ us) ≡ stuck why us → Completed whole before
+before_completed whole h levels [] us why e =
     let g = (run_starts (within (suc levels)) form_start (within_starts levels) None whole).reads edge h.starts blank [] ([], refl) tt in
-    (tokens_of ((start form_start None whole).text) [], (suc levels, g.work, g.goes))
-before_viable whole h levels (q ∷ p) us why e =
+    record { marks = (start form_start None whole).text; reads = (suc levels, g.work, g.goes) }
+before_completed whole h levels (q ∷ p) us why e =
     let c = (run_finishes (within levels) (within (suc levels)) (within_firmly levels) (within_firmly (suc levels)) (within_deeper levels) form_start (within_starts levels) (within_again (suc levels)) (within_finishes levels) whole).ends edge h.finishes blank q p us why e in
     let g = c.reads [] ([], refl) in
-    (tokens_of c.text [], (suc levels, g.work, g.goes))
+    record { marks = c.text; reads = (suc levels, g.work, g.goes) }
+
+pub before_viable : (whole : Rule) → Whole whole → (levels : ℕ) (before us : List Token) (why : Why) → reading levels whole (before ++ us) ≡ stuck why us → Viable whole before
+before_viable whole h levels before us why e = let c = before_completed whole h levels before us why e in (tokens_of c.marks [], c.reads)

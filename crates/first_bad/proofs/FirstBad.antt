@@ -9,8 +9,8 @@ use Rattle.parser_rules.specs.Grammar.{within, reading, at_start}
 use Rattle.parser_rules.specs.Statements.{script}
 use Rattle.parser_rules.specs.Literals.{literal_text, arguments_text}
 use Rattle.first_bad.specs.Viable.{Viable}
-use Rattle.first_bad.specs.FirstBad.{IsRefused, OpensTooMany, StandsAtFirstBad}
-use Rattle.first_bad.proofs.Front.{rest_of, run_front, within_front, same_tail}
+use Rattle.first_bad.specs.FirstBad.{IsOtherNew, GoesOnWithNew, IsRefused, OpensTooMany, StandsAtFirstBad}
+use Rattle.first_bad.proofs.Front.{rest_of, run_front, within_front}
 use Rattle.first_bad.proofs.Turns.{within_below}
 use Rattle.first_bad.proofs.FirmRules.{firm, firm_looped}
 use Rattle.first_bad.proofs.FirmTable.{script_firm, literal_firm, arguments_firm}
@@ -19,23 +19,9 @@ use Rattle.first_bad.proofs.Marks.{edge, has}
 use Rattle.first_bad.proofs.Facts.{Start}
 use Rattle.first_bad.proofs.Completed.{Whole, before_viable}
 use Rattle.first_bad.proofs.FormFacts as facts
-use Rattle.first_bad.proofs.Refusals.{never_both, unexpected_at, same_class_at, not_at_end, too_deep_at}
-
--- ---- a longer front
-
--- a front before the same tokens that leaves fewer begins with the whole of the other, and the next token
-longer_front : (a b v us : List Token) (t : Token) → a ++ t ∷ v ≡ b ++ us → length us < length (t ∷ v) → (x : List Token) × (b ≡ a ++ t ∷ x)
-longer_front a [] v us t e l = absurd (omega (arith, ap (λ (ts : List Token). length ts) e, l, length-append a (t ∷ v)))
-longer_front [] (q ∷ b) v us t e l = (b, same_heads t q v (b ++ us) b e)
-  where
-    same_heads : (t q : Token) (x y b : List Token) → t ∷ x ≡ q ∷ y → q ∷ b ≡ t ∷ b
-    same_heads t q x y b e = cc
-longer_front (q ∷ a) (r ∷ b) v us t e l =
-    let (x, same) = longer_front a b v us t (same_tail q r (a ++ t ∷ v) (b ++ us) e) l in
-    (x, joined q r (a ++ t ∷ v) (b ++ us) b (a ++ t ∷ x) e same)
-  where
-    joined : (q r : Token) (x y b z : List Token) → q ∷ x ≡ r ∷ y → b ≡ z → r ∷ b ≡ q ∷ z
-    joined q r x y b z e f = cc
+use Rattle.first_bad.proofs.Refusals.{never_both, unexpected_at, same_class_at, not_at_end, fine_at}
+use Rattle.first_bad.proofs.News.{past_new}
+use Rattle.first_bad.proofs.Within.{longer_front, never_within, before_within}
 
 -- a text begins with each front of what it begins with
 viable_front : (whole : Rule) (before : List Token) (t : Token) (x : List Token) → Viable whole (before ++ t ∷ x) → Viable whole (before ++ t ∷ [])
@@ -65,9 +51,19 @@ module _ (whole : Rule) (steady : firm whole ≡ true) (ends : Whole whole) wher
           let begins : Viable whole front = before_viable whole ends (suc (suc (suc levels))) front us why (ap (λ (ts : List Token). reading (suc (suc (suc levels))) whole ts) (sym split) ∙ k) in
           viable_front whole before t x (subst (λ (ts : List Token). Viable whole ts) longer begins)
 
+  not_new : (levels : ℕ) (before : List Token) (t : Token) (v : List Token) → reading levels whole (before ++ t ∷ v) ≡ stuck TooDeep (t ∷ v) → ¬ (IsOtherNew t v)
+  not_new levels before t v e o = let (no_foreign, _) = fine_at whole steady levels (before ++ t ∷ v) (t ∷ v) e in no_foreign o.2
+
   opens_too_many : (levels : ℕ) (before us : List Token) → reading levels whole (before ++ us) ≡ stuck TooDeep us → OpensTooMany whole levels before us
   opens_too_many levels before [] e = absurd (not_at_end whole steady levels (before ++ []) e)
-  opens_too_many levels before (t ∷ v) e = record { token = t; behind = v; is = refl; may_go_on = deep_viable levels before t v e; too_deep = too_deep_at whole steady levels before t v e }
+  opens_too_many levels before (t ∷ v) e = record {
+    token = t;
+    behind = v;
+    is = refl;
+    no_new = not_new levels before t v e;
+    may_go_on = deep_viable levels before t v e;
+    too_deep = never_within whole steady levels before t v e;
+  }
 
   is_refused : (levels : ℕ) (why : Why) (before us : List Token) → reading levels whole (before ++ us) ≡ stuck why us → IsRefused why whole levels before us
   is_refused levels TooDeep before us e = opens_too_many levels before us e
@@ -80,12 +76,25 @@ module _ (whole : Rule) (steady : firm whole ≡ true) (ends : Whole whole) wher
       here : (t : Token) (v : List Token) → us ≡ t ∷ v → reading levels whole (before ++ t ∷ v) ≡ stuck Unexpected (t ∷ v)
       here t v k = subst (λ (x : List Token). reading levels whole (before ++ x) ≡ stuck Unexpected x) k e
 
+  -- ---- a `new` that reading went past
+
+  went_past : (levels : ℕ) (before us : List Token) (why : Why) → reading levels whole (before ++ us) ≡ stuck why us → (a b : List Token) (t : Token) → before ≡ a ++ t ∷ b → IsOtherNew t (b ++ us) → GoesOnWithNew whole a t
+  went_past levels before us why e a b t same o =
+      let all : before ++ us ≡ a ++ t ∷ (b ++ us) = ap (λ (ts : List Token). ts ++ us) same ∙ append_assoc a (t ∷ b) us in
+      past_new whole steady ends levels a t (b ++ us) us why o (ap (λ (ts : List Token). reading levels whole ts) (sym all) ∙ e) (omega (arith, length-append b us))
+
   pub first_bad : StandsAtFirstBad whole
   first_bad levels ts why us e =
       let (before, split') = (run_front (within levels) (within_front levels) whole).ends (at_start ts) in
       let split : ts ≡ before ++ us = split' ∙ ap (λ (s : State). before ++ rest_of s) e in
       let at : reading levels whole (before ++ us) ≡ stuck why us = ap (λ (x : List Token). reading levels whole x) (sym split) ∙ e in
-      record { before = before; split = split; may_go_on = before_viable whole ends levels before us why at; refused = is_refused levels why before us at }
+      record {
+        before = before;
+        split = split;
+        may_go_on = before_within whole steady ends levels before us why at;
+        goes_on = went_past levels before us why at;
+        refused = is_refused levels why before us at;
+      }
 
 -- ---- the texts
 

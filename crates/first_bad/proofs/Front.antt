@@ -63,7 +63,7 @@ refuse_front = record { ends = of }
     of (going w) = ([], refl)
     of (stuck why ts) = ([], refl)
 
-turns_front : (n : ℕ) (test : State → Bool) (turn : State → State) → Front turn → (s : State) → Ends (rest_of (turns n test turn s)) (rest_of s)
+pub turns_front : (n : ℕ) (test : State → Bool) (turn : State → State) → Front turn → (s : State) → Ends (rest_of (turns n test turn s)) (rest_of s)
 unfolding turns
 turns_front zero test turn f s = ([], refl)
 turns_front (suc n) test turn f s = elim (cases_Bool (test s)) [

@@ -2,6 +2,7 @@ pub mod Begins
 pub mod Front
 pub mod Views
 pub mod Turns
+pub mod Lags
 pub mod Deeper
 pub mod Words
 pub mod Walk
@@ -22,5 +23,9 @@ pub mod FinishRules
 pub mod ExpressionFacts
 pub mod FormFacts
 pub mod Completed
+pub mod UpTo
+pub mod News
 pub mod Past
+pub mod Within
 pub mod FirstBad
+pub mod OneRefusal

@@ -31,6 +31,15 @@ pub end_class : class_of [] ≡ classes.End
 unfolding class_of
 end_class = refl
 
+word_only : (kind : TokenKind) → is_word_token kind ≡ true → kind ≡ tokens.Word
+word_only tokens.Word h = refl
+word_only tokens.Punct h = absurd (let no : ⊥ = cc in no)
+word_only tokens.Num h = absurd (let no : ⊥ = cc in no)
+word_only tokens.Text h = absurd (let no : ⊥ = cc in no)
+
+pub is_other : (t : Token) (v : List Token) → class_of (t ∷ v) ≡ classes.Foreign → is_new t ≡ true → IsOtherNew t v
+is_other t v c n = let (k, x) = both (is_word_token t.kind) (bytes_eq (codes "new") t.text) n in (word_only t.kind k, sym (same_text (codes "new") t.text x), c)
+
 module _ (whole : Rule) (steady : firm whole ≡ true) where
   -- ---- levels
 
@@ -53,7 +62,7 @@ module _ (whole : Rule) (steady : firm whole ≡ true) where
   -- ---- other tokens behind the refused one
 
   module _ (levels : ℕ) (before : List Token) (t : Token) (v : List Token) (why : Why) (e : reading levels whole (before ++ t ∷ v) ≡ stuck why (t ∷ v)) where
-    same_stop : (v' : List Token) → class_of (t ∷ v) ≡ class_of (t ∷ v') → reading levels whole (before ++ t ∷ v') ≡ stuck why (t ∷ v')
+    pub same_stop : (v' : List Token) → class_of (t ∷ v) ≡ class_of (t ∷ v') → reading levels whole (before ++ t ∷ v') ≡ stuck why (t ∷ v')
     same_stop v' c =
         (run_firm (within levels) (within_firmly levels) whole steady).alike (at_start (before ++ t ∷ v)) before t v v' refl (ap (λ (s : State). rest_of s) e) (inr c)
         ∙ ap (λ (s : State). swap (t ∷ v') s) e
@@ -62,7 +71,7 @@ module _ (whole : Rule) (steady : firm whole ≡ true) where
     turned_stop v' x = (run_sunk (within levels) (within_firmly levels) (within_sunk levels) whole steady).also blank before t v v' why x e
 
     -- reading stands whatever stands behind the token
-    stands : (class_of (t ∷ v) ≡ classes.Foreign → is_new t ≡ true → ⊥) → (v' : List Token) → (other : Why) × (reading levels whole (before ++ t ∷ v') ≡ stuck other (t ∷ v')) × (why ≡ Unexpected → other ≡ Unexpected)
+    pub stands : (class_of (t ∷ v) ≡ classes.Foreign → is_new t ≡ true → ⊥) → (v' : List Token) → (other : Why) × (reading levels whole (before ++ t ∷ v') ≡ stuck other (t ∷ v')) × (why ≡ Unexpected → other ≡ Unexpected)
     stands known v' = elim (cases_Bool (is_new t)) [
       | inr n ↦ (why, same_stop v' (class_fixed t v v' n), λ u. u)
       | inl n ↦ elim (two_classes t v v' n) [
@@ -71,15 +80,6 @@ module _ (whole : Rule) (steady : firm whole ≡ true) where
         | won c d ↦ absurd (known c n)
       ]
     ]
-
-  word_only : (kind : TokenKind) → is_word_token kind ≡ true → kind ≡ tokens.Word
-  word_only tokens.Word h = refl
-  word_only tokens.Punct h = absurd (let no : ⊥ = cc in no)
-  word_only tokens.Num h = absurd (let no : ⊥ = cc in no)
-  word_only tokens.Text h = absurd (let no : ⊥ = cc in no)
-
-  is_other : (t : Token) (v : List Token) → class_of (t ∷ v) ≡ classes.Foreign → is_new t ≡ true → IsOtherNew t v
-  is_other t v c n = let (k, x) = both (is_word_token t.kind) (bytes_eq (codes "new") t.text) n in (word_only t.kind k, sym (same_text (codes "new") t.text x), c)
 
   -- an unexpected token
   pub unexpected_at : (levels : ℕ) (before : List Token) (t : Token) (v : List Token) → reading levels whole (before ++ t ∷ v) ≡ stuck Unexpected (t ∷ v) → ¬ (IsOtherNew t v) → ¬ (Viable whole (before ++ t ∷ []))
@@ -92,14 +92,8 @@ module _ (whole : Rule) (steady : firm whole ≡ true) where
   same_class_at levels before t v e more c (j, w, h) =
       never_both levels j (before ++ t ∷ more) (t ∷ more) w (same_stop levels before t v Unexpected e more (sym c)) h
 
-  fine_at : (levels : ℕ) (ts us : List Token) → reading levels whole ts ≡ stuck TooDeep us → Fine (stuck TooDeep us)
+  pub fine_at : (levels : ℕ) (ts us : List Token) → reading levels whole ts ≡ stuck TooDeep us → Fine (stuck TooDeep us)
   fine_at levels ts us e = subst (λ (s : State). Fine s) e ((run_sinks (within levels) (within_sinks levels) whole).fine (at_start ts) tt)
 
   pub not_at_end : (levels : ℕ) (ts : List Token) → reading levels whole ts ≡ stuck TooDeep [] → ⊥
   not_at_end levels ts e = let (_, no_end) = fine_at levels ts [] e in no_end end_class
-
-  pub too_deep_at : (levels : ℕ) (before : List Token) (t : Token) (v : List Token) → reading levels whole (before ++ t ∷ v) ≡ stuck TooDeep (t ∷ v) → (more : List Token) (w : Work) → ¬ (reading levels whole (before ++ t ∷ more) ≡ going w)
-  too_deep_at levels before t v e more w h =
-      let (no_foreign, _) = fine_at levels (before ++ t ∷ v) (t ∷ v) e in
-      let (why, here, _) = stands levels before t v TooDeep e (λ c n. no_foreign c) more in
-      going_stuck w why (t ∷ more) (sym h ∙ here)

@@ -61,7 +61,7 @@ new_no_name n x h = elim (cases_Bool (begins_construction (n ∷ x))) [
         let no : true ≡ false = sym h ∙ name_not_new n b in
         cc
 
-class_turned : (q : Token) (p : List Token) (n : Token) (u u' : List Token) → is_new n ≡ true → class_of (q ∷ (p ++ n ∷ u)) ≡ class_of (q ∷ (p ++ n ∷ u'))
+pub class_turned : (q : Token) (p : List Token) (n : Token) (u u' : List Token) → is_new n ≡ true → class_of (q ∷ (p ++ n ∷ u)) ≡ class_of (q ∷ (p ++ n ∷ u'))
 class_turned q p n u u' h = elim (cases_Bool (is_new q)) [
   | inr k ↦ class_fixed q (p ++ n ∷ u) (p ++ n ∷ u') k
   | inl k ↦ of p k

@@ -41,7 +41,7 @@ pub record Parts (at : Form → State → State) (R : Form → Reading Part) : T
   pub arguments_text_same : Same (each a_part) (run at (many (sees_other (classes.End ∷ [])) argument)) (ArgumentsText R)
 
 module _ (parts : (at : Form → State → State) → Inside at → ((form : Form) → Still (at form)) → (R : Form → Reading Part) → ((form : Form) → Same a_part (at form) (R form)) → Unclosed R → Parts at R) where
-  forms_same : (at : Form → State → State) → Inside at → ((form : Form) → Still (at form)) → (R : Form → Reading Part) → ((form : Form) → Same a_part (at form) (R form)) → Unclosed R →
+  pub forms_same : (at : Form → State → State) → Inside at → ((form : Form) → Still (at form)) → (R : Form → Reading Part) → ((form : Form) → Same a_part (at form) (R form)) → Unclosed R →
       (form : Form) → Same a_part (run at (rule_of form)) (FormOf R form)
   forms_same at eats still R w u Expression = (parts at eats still R w u).expression_same
   forms_same at eats still R w u Prefix = (parts at eats still R w u).prefix_same

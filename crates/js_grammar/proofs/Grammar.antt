@@ -32,7 +32,7 @@ module _ (at : Form → State → State) (eats : Inside at) (still : (form : For
   simple : Same a_part (run at simple_operand) (Simple R)
   simple = simple_same at eats still R within
 
-  parts : Parts at R
+  pub parts : Parts at R
   parts = record {
     expression_list_same = list;
     items_same = items_same at eats still R within;

@@ -24,4 +24,5 @@ mod Deeper
 mod Texts
 mod Forms
 pub mod Grammar
+mod UpTo
 pub mod FirstBad

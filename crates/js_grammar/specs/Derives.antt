@@ -31,14 +31,38 @@ Reads (suc n) form p x q = FormOf (Reads n) form p x q
 abbrev pub whole_tree : List Part → Spot → Trees
 whole_tree xs end = trees_of (node_at kinds.Script 0 xs end ∷ [])
 
--- the tokens are a script with this tree, where so many levels may be open
-pub data Derives (levels : ℕ) (ts : List Token) : Trees → Type 0 where
-  derives_script : {xs : List Part} {end : Spot} → Many (other_than (End ∷ [])) (Reads levels Item) (spot ts 0) xs end → Derives levels ts (whole_tree xs end)
+-- ---- texts
 
--- the tokens are one literal
-pub data DerivesLiteral (levels : ℕ) (ts : List Token) : Trees → Type 0 where
-  derives_literal : {xs : List Part} {end : Spot} → LiteralText (Reads levels) (spot ts 0) xs end → DerivesLiteral levels ts (whole_tree xs end)
+-- which trees the tokens of a text have, where its forms are read so
+abbrev pub Text : Type 1
+Text = (Form → Reading Part) → List Token → Trees → Type 0
 
--- the tokens are arguments
-pub data DerivesArguments (levels : ℕ) (ts : List Token) : Trees → Type 0 where
-  derives_arguments : {xs : List Part} {end : Spot} → ArgumentsText (Reads levels) (spot ts 0) xs end → DerivesArguments levels ts (whole_tree xs end)
+-- the tokens are a script with this tree, where its forms are read so,
+pub data ScriptBy (reads : Form → Reading Part) (ts : List Token) : Trees → Type 0 where
+  derives_script : {xs : List Part} {end : Spot}
+      → Many (other_than (End ∷ [])) (reads Item) (spot ts 0) xs end
+      → ScriptBy reads ts (whole_tree xs end)
+
+-- or one literal,
+pub data LiteralBy (reads : Form → Reading Part) (ts : List Token) : Trees → Type 0 where
+  derives_literal : {xs : List Part} {end : Spot}
+      → LiteralText reads (spot ts 0) xs end → LiteralBy reads ts (whole_tree xs end)
+
+-- or arguments
+pub data ArgumentsBy (reads : Form → Reading Part) (ts : List Token) : Trees → Type 0 where
+  derives_arguments : {xs : List Part} {end : Spot}
+      → ArgumentsText reads (spot ts 0) xs end → ArgumentsBy reads ts (whole_tree xs end)
+
+-- the tokens are a text with this tree, where so many levels may be open
+abbrev pub DerivesBy : Text → ℕ → List Token → Trees → Type 0
+DerivesBy TextBy levels = TextBy (Reads levels)
+
+-- a script, one literal, or arguments
+abbrev pub Derives : ℕ → List Token → Trees → Type 0
+Derives = DerivesBy ScriptBy
+
+abbrev pub DerivesLiteral : ℕ → List Token → Trees → Type 0
+DerivesLiteral = DerivesBy LiteralBy
+
+abbrev pub DerivesArguments : ℕ → List Token → Trees → Type 0
+DerivesArguments = DerivesBy ArgumentsBy

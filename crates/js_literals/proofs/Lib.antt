@@ -12,3 +12,4 @@ pub mod Orders
 pub mod Texts
 pub mod OneOrder
 pub mod OneValue
+pub mod OneRefusal

@@ -6,3 +6,4 @@ pub mod Refused
 pub mod Works
 pub mod Steps
 pub mod Endings
+pub mod OneFault

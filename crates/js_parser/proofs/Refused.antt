@@ -11,7 +11,8 @@ use Rattle.parser_rules.specs.declared.form.Why.{Why}
 use Rattle.parser_rules.specs.Work.{State, going, stuck}
 use Rattle.parser_rules.specs.Rules.{Rule}
 use Rattle.parser_rules.specs.Grammar.{answer_of, reading, limit, rejected, refusal_at}
-use Rattle.js_grammar.specs.Exactly.{Derivation, IsSameGrammar}
+use Rattle.js_grammar.specs.Derives.{Text, DerivesBy}
+use Rattle.js_grammar.specs.Exactly.{IsSameGrammar}
 use Rattle.js_grammar.specs.FirstBad.{HasFirstBad}
 use Rattle.js_parser.specs.Accepted.{IsAccepted, IsFaultBy}
 use Rattle.js_parser.specs.View.{tree_of}
@@ -40,14 +41,14 @@ stands_for end (stuck why left) r e = record { why = why; left = left; stands = 
     same : rejected (refusal_at end why left) ≡ rejected r → r ≡ refusal_at end why left
     same e = cc
 
-module _ (whole : Rule) (Derived : Derivation) (same : IsSameGrammar whole Derived) (first : HasFirstBad whole Derived) where
-  tree_is : (bytes : List ℕ) (nodes : List Node) → IsAccepted whole bytes (tree_of nodes) → HasTree Derived bytes (tree_of nodes)
+module _ (whole : Rule) (TextBy : Text) (same : IsSameGrammar whole (DerivesBy TextBy)) (first : HasFirstBad whole TextBy) where
+  tree_is : (bytes : List ℕ) (nodes : List Node) → IsAccepted whole bytes (tree_of nodes) → HasTree (DerivesBy TextBy) bytes (tree_of nodes)
   tree_is bytes nodes h = record { tokens = h.tokens; are_its_tokens = h.are_its_tokens; derives = (same.accepts limit (length bytes) h.tokens (tree_of nodes)).0 h.is_their_tree }
 
-  text_is : (bytes : List ℕ) (nodes : List Node) → IsTreeOf nodes (tree_of nodes) → IsAccepted whole bytes (tree_of nodes) → IsTextOf Derived bytes nodes
+  text_is : (bytes : List ℕ) (nodes : List Node) → IsTreeOf nodes (tree_of nodes) → IsAccepted whole bytes (tree_of nodes) → IsTextOf (DerivesBy TextBy) bytes nodes
   text_is bytes nodes its h = record { tree = tree_of nodes; is_its_tree = its; has = tree_is bytes nodes h }
 
-  fault_is : (bytes : List ℕ) (f : SyntaxFault) → IsFaultBy whole bytes f → IsFaultOf Derived bytes f
+  fault_is : (bytes : List ℕ) (f : SyntaxFault) → IsFaultBy whole bytes f → IsFaultOf TextBy bytes f
   fault_is bytes faults.NoMemory h = tt
   fault_is bytes (faults.Refused r) (inl h) = inl h
   fault_is bytes (faults.Refused r) (inr h) =
@@ -61,11 +62,11 @@ module _ (whole : Rule) (Derived : Derivation) (same : IsSameGrammar whole Deriv
         is_its_refusal = s.is;
       })
 
-  pub ok_is : (bytes : List ℕ) (r : Result (List Node) SyntaxFault) → IfOk r (λ nodes. IsTreeOf nodes (tree_of nodes)) → IfOk r (λ nodes. IsAccepted whole bytes (tree_of nodes)) → IfOk r (IsTextOf Derived bytes)
+  pub ok_is : (bytes : List ℕ) (r : Result (List Node) SyntaxFault) → IfOk r (λ nodes. IsTreeOf nodes (tree_of nodes)) → IfOk r (λ nodes. IsAccepted whole bytes (tree_of nodes)) → IfOk r (IsTextOf (DerivesBy TextBy) bytes)
   ok_is bytes r t h = ok_both r (λ nodes p q. text_is bytes nodes p q) t h
 
-  pub nodes_are : (bytes : List ℕ) (r : Result (List Node) SyntaxFault) → IfOk r (λ nodes. IsAccepted whole bytes (tree_of nodes)) → IfOk r (λ nodes. HasTree Derived bytes (tree_of nodes))
+  pub nodes_are : (bytes : List ℕ) (r : Result (List Node) SyntaxFault) → IfOk r (λ nodes. IsAccepted whole bytes (tree_of nodes)) → IfOk r (λ nodes. HasTree (DerivesBy TextBy) bytes (tree_of nodes))
   nodes_are bytes r h = ok_map r (λ nodes p. tree_is bytes nodes p) h
 
-  pub err_is : (bytes : List ℕ) (r : Result (List Node) SyntaxFault) → IfErr r (IsFaultBy whole bytes) → IfErr r (IsFaultOf Derived bytes)
+  pub err_is : (bytes : List ℕ) (r : Result (List Node) SyntaxFault) → IfErr r (IsFaultBy whole bytes) → IfErr r (IsFaultOf TextBy bytes)
   err_is bytes r h = err_map r (λ f p. fault_is bytes f p) h

@@ -1,4 +1,4 @@
--- What the rule for the whole of a text answers to its tokens; `Parsed` says what it means.
+-- What the rule for the whole of a text answers to its tokens. No caller needs this.
 -- This project's own; docs/SCRIPTS.md, "How the grammar is written".
 use Rattle.std.specs.Prelude.{◌≡◌, ℕ, List, length, ◌⊎◌}
 use Rattle.ivm_text.specs.declared.refusal.Refusal.{Refusal}

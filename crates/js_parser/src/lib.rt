@@ -1,7 +1,8 @@
 //! Scripts, literals and arguments from their bytes: their tree, or else the first bad token.
 //!
 //! Contracts see bytes and tokens as lists, and a script as the tree under its root.
-//! Rely on: save for want of memory, `parse` and its kin answer what `parser_rules` says.
+//! Rely on: save for want of memory, `parse` and its kin answer with a text's one tree, or with its
+//! one refusal.
 //! Over `js_grammar`, `parser_rules`, `js_lexer` and `js_syntax`; under `js_scripts` and
 //! `js_literals`.
 //! Begin with `specs/View.antt`, then `src/reader.rt` and `src/statements.rt`.
@@ -14,6 +15,7 @@ mod draft;
 mod expressions;
 mod functions;
 mod grammar;
+mod laws;
 mod limit;
 mod lists;
 mod literals;
@@ -27,4 +29,5 @@ mod statements;
 
 pub use classes::spells;
 pub use js_lexer::SyntaxFault;
+pub use laws::texts_are_refused_once;
 pub use scripts::{parse, parse_arguments, parse_literal};

@@ -3,8 +3,6 @@
 ghost use Rattle.std.specs.Prelude.{◌≡◌, ◌<◌, ◌^◌, List, length, IfOk, IfErr};
 ghost use Rattle.js_syntax.specs.Tree.{IsTreeOf};
 ghost use Rattle.js_lexer.specs.declared.token.Token.{Token};
-ghost use Rattle.parser_rules.specs.Statements.{script};
-ghost use Rattle.parser_rules.specs.Literals.{literal_text, arguments_text};
 ghost use Rattle.parser_rules.specs.Grammar.{within, at_start, answer_by, accepted, limit, tree_of_parts};
 ghost use Rattle.js_parser.specs.State.{state_of, Runs};
 ghost use Rattle.js_parser.specs.Accepted.{IsAccepted, IsFaultBy, IsRejected, rule_for};
@@ -48,7 +46,6 @@ pub fn parse(alloc: Global, text: &[u8]) -> Result<Script, SyntaxFault>
 
     ensures ok { IfOk result (IsScriptOf text.now) }
     ensures err { IfErr result (IsFault text.now) }
-    ensures rule { IfErr result (IsFaultBy script text.now) }
 {
     parse_whole(alloc, text, Whole::Script)
 }
@@ -63,7 +60,6 @@ pub fn parse_literal(alloc: Global, text: &[u8]) -> Result<Script, SyntaxFault>
     ensures ok { IfOk result (IsLiteralOf text.now) }
     ensures tree { IfOk result (λ nodes. IsTreeOf nodes (tree_of nodes)) }
     ensures err { IfErr result (IsLiteralFault text.now) }
-    ensures rule { IfErr result (IsFaultBy literal_text text.now) }
 {
     parse_whole(alloc, text, Whole::Literal)
 }
@@ -78,7 +74,6 @@ pub fn parse_arguments(alloc: Global, text: &[u8]) -> Result<Script, SyntaxFault
     ensures ok { IfOk result (AreArgumentsOf text.now) }
     ensures tree { IfOk result (λ nodes. IsTreeOf nodes (tree_of nodes)) }
     ensures err { IfErr result (IsArgumentsFault text.now) }
-    ensures rule { IfErr result (IsFaultBy arguments_text text.now) }
 {
     parse_whole(alloc, text, Whole::Arguments)
 }

@@ -14,13 +14,14 @@ use Rattle.js_syntax.proofs.TreeLemmas.{tree_unique}
 use Rattle.js_lexer.specs.declared.token.Token.{Token}
 use Rattle.js_lexer.specs.declared.token.SyntaxFault.{SyntaxFault}
 use Rattle.js_lexer.specs.declared.token.SyntaxFault.TheVariants as faults
-use Rattle.js_lexer.specs.Tokens.{AreTokens, IsRefusal, HasOneReading}
-use Rattle.parser_rules.specs.Grammar.{limit, answer, accepted, rejected}
+use Rattle.js_lexer.specs.Tokens.{IsRefusal, HasOneReading}
+use Rattle.parser_rules.specs.declared.form.Why.{Why}
+use Rattle.parser_rules.specs.Grammar.{limit, refusal_at}
 use Rattle.parser_rules.specs.Statements.{script as script_rule}
-use Rattle.js_grammar.specs.Derives.{Derives}
+use Rattle.js_grammar.specs.Derives.{ScriptBy, Derives}
 use Rattle.js_grammar.specs.Exactly.{IsSameGrammar}
-use Rattle.js_parser.specs.Parsed.{HasTree}
-use Rattle.js_parser.specs.Accepted.{IsFaultBy}
+use Rattle.js_grammar.specs.FirstBad.{IsFirstBad, HasOneRefusal}
+use Rattle.js_parser.specs.Parsed.{HasTree, IsRefusedText, IsFault}
 use Rattle.js_syntax.specs.declared.check.EarlyFault.{EarlyFault}
 use Rattle.js_syntax.specs.declared.check.EarlyFault.TheVariants.{Refused as EarlyRefused}
 use Rattle.js_syntax.specs.Answer.{refusal_of, Refuses}
@@ -50,9 +51,9 @@ err_told_by bytes t (Ok x) has says = tt
 err_told_by bytes t (Err told) has says = told_by bytes t told has says
 
 -- and one before there is a tree
-pub told_before : (bytes : List ℕ) (told : SyntaxFault) → IsFaultBy script_rule bytes told → IsFaultOf bytes told
+pub told_before : (bytes : List ℕ) (told : SyntaxFault) → IsFault bytes told → IsFaultOf bytes told
 told_before bytes (faults.Refused r) (inl is) = no_tokens is
-told_before bytes (faults.Refused r) (inr text) = no_tree (text.are_its_tokens) (text.is_their_refusal)
+told_before bytes (faults.Refused r) (inr text) = no_tree text
 told_before bytes faults.NoMemory is = tt
 
 -- ---- from nodes
@@ -165,12 +166,12 @@ says_once t one other (is_whole none all) (is_whole none' all') = refl
 -- what a text is, by whether it has tokens and a tree
 data Way (bytes : List ℕ) : Reading → Type 0 where
   without_tokens : {r : Refusal} → IsRefusal bytes r → Way bytes (refused r)
-  without_tree : {ts : List Token} {r : Refusal} → AreTokens bytes ts → answer (length bytes) ts ≡ rejected r → Way bytes (refused r)
+  without_tree : {r : Refusal} → IsRefusedText ScriptBy bytes r → Way bytes (refused r)
   with_tree : {t : Trees} {reading : Reading} → HasTree Derives bytes t → Says t reading → Way bytes reading
 
 way_of : {bytes : List ℕ} {reading : Reading} → Reads bytes reading → Way bytes reading
 way_of (no_tokens is) = without_tokens is
-way_of (no_tree tokens rejects) = without_tree tokens rejects
+way_of (no_tree text) = without_tree text
 way_of (early has least) = with_tree has (has_fault least)
 way_of (unbuilt has none first) = with_tree has (has_unbuilt none first)
 way_of (whole has none all) = with_tree has (is_whole none all)
@@ -182,34 +183,42 @@ tree_once {bytes} {t} {u} lexed grammar one other =
     let same : one.tokens ≡ other.tokens = lexed.tokens (one.tokens) (other.tokens) (one.are_its_tokens) (other.are_its_tokens) in
     grammar.once limit limit (other.tokens) t u (subst (λ (ts : List Token). Derives limit ts t) same (one.derives)) (other.derives)
 
--- a text with a tree is not rejected
-tree_accepted : {bytes : List ℕ} {t : Trees} (ts : List Token) (r : Refusal) → HasOneReading bytes → IsSameGrammar script_rule Derives
-    → AreTokens bytes ts → answer (length bytes) ts ≡ rejected r → HasTree Derives bytes t → ⊥
-tree_accepted {bytes} {t} ts r lexed grammar tokens rejects has =
-    let same : has.tokens ≡ ts = lexed.tokens (has.tokens) ts (has.are_its_tokens) tokens in
-    let accepts : answer (length bytes) ts ≡ accepted t = (grammar.accepts limit (length bytes) ts t).1 (subst (λ (us : List Token). Derives limit us t) same (has.derives)) in
-    let both : rejected r ≡ accepted t = sym rejects ∙ accepts in
-    let no : ⊥ = cc in no
+-- and one refusal
+refusal_once : {bytes : List ℕ} {r s : Refusal} → HasOneReading bytes → HasOneRefusal ScriptBy
+    → IsRefusedText ScriptBy bytes r → IsRefusedText ScriptBy bytes s → r ≡ s
+refusal_once {bytes} {r} {s} lexed refusals one other =
+    let same : one.tokens ≡ other.tokens = lexed.tokens (one.tokens) (other.tokens) (one.are_its_tokens) (other.are_its_tokens) in
+    let here = subst (λ (ts : List Token). IsFirstBad ScriptBy limit ts one.why one.left) same (one.is_first_bad) in
+    let (why, left) = refusals.one limit (other.tokens) (one.why) (other.why) (one.left) (other.left) here (other.is_first_bad) in
+    one.is_its_refusal
+    ∙ ap (λ (w : Why). refusal_at (length bytes) w one.left) why
+    ∙ ap (λ (ts : List Token). refusal_at (length bytes) other.why ts) left
+    ∙ sym (other.is_its_refusal)
 
-way_once : (bytes : List ℕ) (one other : Reading) → HasOneReading bytes → IsSameGrammar script_rule Derives
-    → Way bytes one → Way bytes other → one ≡ other
-way_once bytes one other lexed grammar (without_tokens {r = r} is) (without_tokens {r = s} is') = ap refused (lexed.refusals r s is is')
-way_once bytes one other lexed grammar (without_tokens {r = r} is) (without_tree {ts = ts} tokens rejects) = absurd (lexed.either ts r tokens is)
-way_once bytes one other lexed grammar (without_tokens {r = r} is) (with_tree has says) = absurd (lexed.either (has.tokens) r (has.are_its_tokens) is)
-way_once bytes one other lexed grammar (without_tree {ts = ts} tokens rejects) (without_tokens {r = r} is) = absurd (lexed.either ts r tokens is)
-way_once bytes one other lexed grammar (without_tree {ts = ts} {r = r} tokens rejects) (without_tree {ts = us} {r = s} tokens' rejects') =
-    let same : ts ≡ us = lexed.tokens ts us tokens tokens' in
-    let both : rejected r ≡ rejected s = sym rejects ∙ (ap (λ (vs : List Token). answer (length bytes) vs) same ∙ rejects') in
-    let told : r ≡ s = cc in ap refused told
-way_once bytes one other lexed grammar (without_tree {ts = ts} {r = r} tokens rejects) (with_tree has says) =
-    absurd (tree_accepted ts r lexed grammar tokens rejects has)
-way_once bytes one other lexed grammar (with_tree has says) (without_tokens {r = r} is) = absurd (lexed.either (has.tokens) r (has.are_its_tokens) is)
-way_once bytes one other lexed grammar (with_tree has says) (without_tree {ts = ts} {r = r} tokens rejects) =
-    absurd (tree_accepted ts r lexed grammar tokens rejects has)
-way_once bytes one other lexed grammar (with_tree {t = t} has says) (with_tree {t = u} has' says') =
-    let same : t ≡ u = tree_once lexed grammar has has' in
+-- a text with a tree has none
+never_both : {bytes : List ℕ} {t : Trees} {r : Refusal} → HasOneReading bytes → HasTree Derives bytes t → IsRefusedText ScriptBy bytes r → ⊥
+never_both {bytes} {t} lexed has bad =
+    let same : has.tokens ≡ bad.tokens = lexed.tokens (has.tokens) (bad.tokens) (has.are_its_tokens) (bad.are_its_tokens) in
+    bad.is_first_bad.none t (subst (λ (ts : List Token). Derives limit ts t) same (has.derives))
+
+-- what is asked of the grammar
+pub record IsRead (bytes : List ℕ) : Type 0 where
+  pub lexed : HasOneReading bytes
+  pub grammar : IsSameGrammar script_rule Derives
+  pub refusals : HasOneRefusal ScriptBy
+
+way_once : (bytes : List ℕ) (one other : Reading) → IsRead bytes → Way bytes one → Way bytes other → one ≡ other
+way_once bytes one other is (without_tokens {r = r} a) (without_tokens {r = s} b) = ap refused (is.lexed.refusals r s a b)
+way_once bytes one other is (without_tokens {r = r} a) (without_tree bad) = absurd (is.lexed.either (bad.tokens) r (bad.are_its_tokens) a)
+way_once bytes one other is (without_tokens {r = r} a) (with_tree has says) = absurd (is.lexed.either (has.tokens) r (has.are_its_tokens) a)
+way_once bytes one other is (without_tree bad) (without_tokens {r = r} b) = absurd (is.lexed.either (bad.tokens) r (bad.are_its_tokens) b)
+way_once bytes one other is (without_tree bad) (without_tree bad') = ap refused (refusal_once (is.lexed) (is.refusals) bad bad')
+way_once bytes one other is (without_tree bad) (with_tree has says) = absurd (never_both (is.lexed) has bad)
+way_once bytes one other is (with_tree has says) (without_tokens {r = r} b) = absurd (is.lexed.either (has.tokens) r (has.are_its_tokens) b)
+way_once bytes one other is (with_tree has says) (without_tree bad) = absurd (never_both (is.lexed) has bad)
+way_once bytes one other is (with_tree {t = t} has says) (with_tree {t = u} has' says') =
+    let same : t ≡ u = tree_once (is.lexed) (is.grammar) has has' in
     says_once u one other (subst (λ (v : Trees). Says v one) same says) says'
 
-pub reads_once : (bytes : List ℕ) (one other : Reading) → HasOneReading bytes → IsSameGrammar script_rule Derives
-    → Reads bytes one → Reads bytes other → one ≡ other
-reads_once bytes one other lexed grammar first second = way_once bytes one other lexed grammar (way_of first) (way_of second)
+pub reads_once : (bytes : List ℕ) (one other : Reading) → IsRead bytes → Reads bytes one → Reads bytes other → one ≡ other
+reads_once bytes one other is first second = way_once bytes one other is (way_of first) (way_of second)

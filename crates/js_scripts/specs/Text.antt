@@ -1,6 +1,6 @@
 -- What the bytes of a text are: a script, or why they are none.
 -- ECMA-262, ParseScript; docs/SCRIPTS.md, "From a text to a script".
-use Rattle.std.specs.Prelude.{◌≡◌, ℕ, List, [], length, None, Some}
+use Rattle.std.specs.Prelude.{◌≡◌, ℕ, List, [], None, Some}
 use Rattle.ivm_text.specs.declared.refusal.Refusal.{Refusal}
 use Rattle.ivm_text.specs.declared.refusal.RefusalKind.TheVariants.{Unexpected}
 use Rattle.js_syntax.specs.declared.fault.Fault.{Fault}
@@ -9,13 +9,11 @@ use Rattle.js_syntax.specs.Early.{outside}
 use Rattle.js_syntax.specs.Faults.{faults_of}
 use Rattle.js_syntax.specs.Order.{IsLeast}
 use Rattle.js_syntax.specs.Tree.{Trees}
-use Rattle.js_lexer.specs.declared.token.Token.{Token}
 use Rattle.js_lexer.specs.declared.token.SyntaxFault.{SyntaxFault}
 use Rattle.js_lexer.specs.declared.token.SyntaxFault.TheVariants as faults
-use Rattle.js_lexer.specs.Tokens.{AreTokens, IsRefusal}
-use Rattle.parser_rules.specs.Grammar.{answer, rejected}
-use Rattle.js_grammar.specs.Derives.{Derives}
-use Rattle.js_parser.specs.Parsed.{HasTree}
+use Rattle.js_lexer.specs.Tokens.{IsRefusal}
+use Rattle.js_grammar.specs.Derives.{ScriptBy, Derives}
+use Rattle.js_parser.specs.Parsed.{HasTree, IsRefusedText}
 use Rattle.js_syntax.specs.Answer.{refusal_of}
 use Rattle.js_scripts.specs.Nodes.{nodes_of}
 use Rattle.js_scripts.specs.Unbuilt.{first_unbuilt}
@@ -33,8 +31,8 @@ unbuilt_refusal place = record { kind = Unexpected; place = place; word = None }
 pub data Reads (bytes : List ℕ) : Reading → Type 0 where
   -- no tokens, with the first fault from left to right;
   no_tokens : {r : Refusal} → IsRefusal bytes r → Reads bytes (refused r)
-  -- tokens of which no script has the tree, with what is told of the first bad one;
-  no_tree : {ts : List Token} {r : Refusal} → AreTokens bytes ts → answer (length bytes) ts ≡ rejected r → Reads bytes (refused r)
+  -- tokens that have no tree, with what is told of the first bad one;
+  no_tree : {r : Refusal} → IsRefusedText ScriptBy bytes r → Reads bytes (refused r)
   -- a tree with early faults, the least of which is told;
   early : {t : Trees} {fault : Fault} → HasTree Derives bytes t → IsLeast (faults_of outside t) fault → Reads bytes (refused (refusal_of fault))
   -- a tree with a form that isn't built, the first of which is told;

@@ -19,4 +19,4 @@ returns-in-Ok-clause-err c =
     (λ fault told. told (text.tree) (text.is_its_tree)) c.judged.ensures.err)
 
 pub returns-in-Err-clause-err : goal.returns-in-Err-clause-err
-returns-in-Err-clause-err c = told_before c.args.text.now c.in-Err.fault c.in-Err.ensures.rule
+returns-in-Err-clause-err c = told_before c.args.text.now c.in-Err.fault c.in-Err.ensures.err

@@ -1,0 +1,5 @@
+use Rattle.first_bad.proofs.OneRefusal.{one_of_arguments}
+use Rattle.first_bad.proofs.laws.arguments_are_read_or_refused_once.Goals as goal
+
+pub returns : goal.returns
+returns c = one_of_arguments
