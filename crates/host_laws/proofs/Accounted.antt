@@ -63,6 +63,7 @@ pub settled_turn : (stand : Stand) (n : ℕ) → is_settled stand n ≡ true →
 settled_turn stand n is = turn_cases stand (λ m. is_settled m.1 n ≡ true)
     is
     is
+    is
     (settled_drawing stand (Some held.Nothing) [] (Settle (drawn stand) (how.Own Disposed)) n is)
     (λ i budget kind _. settled_drawing stand None [] (Post i (task_of stand budget kind)) n is)
     (λ i _. settled_drawing stand (Some held.Nothing) (drawn stand ∷ []) (Ask i) n is)
@@ -133,6 +134,7 @@ posted_are_drawn script = run_keeps script PostsDrawn (λ n is. cc is.at)
     (λ s run kept. turn_cases s (λ m. PostsDrawn m.1)
     kept
     kept
+    kept
     (drawn_quiet s (Some held.Nothing) [] (Settle (drawn s) (how.Own Disposed)) (λ i. refl) kept)
     (λ i budget kind _. drawn_posting s i budget kind kept)
     (λ i _. drawn_quiet s (Some held.Nothing) (drawn s ∷ []) (Ask i) (λ i. refl) kept))
@@ -173,6 +175,7 @@ once_posting stand i budget kind below kept n one other =
 pub posted_once : (script : HostScript) (stand : Stand) → HostRun script stand → PostsOnce stand
 posted_once script = run_keeps script PostsOnce (λ n one other. cc one.at)
     (λ s run kept. turn_cases s (λ m. PostsOnce m.1)
+    kept
     kept
     kept
     (once_quiet s (s.history ++ Settle (drawn s) (how.Own Disposed) ∷ []) (posts_drawing s (Some held.Nothing) [] (Settle (drawn s) (how.Own Disposed)) (λ i. refl)) kept)
@@ -221,6 +224,7 @@ accounted script = run_keeps script (λ s. (n : ℕ) → n < drawn s → IsAccou
     (λ s run kept. turn_cases s (λ m. (n : ℕ) → n < drawn m.1 → IsAccounted m.1 n)
     kept
     kept
+    kept
     (accounted_drawing s (Some held.Nothing) [] (Settle (drawn s) (how.Own Disposed)) kept (inl (settled_at_once s held.Nothing [] (Settle (drawn s) (how.Own Disposed)))))
     (λ i budget kind _. accounted_drawing s None [] (Post i (task_of s budget kind)) kept (inr (posted_next s i (task_of s budget kind) (drawn s) refl)))
     (λ i _. accounted_drawing s (Some held.Nothing) (drawn s ∷ []) (Ask i) kept (inl (settled_at_once s held.Nothing (drawn s ∷ []) (Ask i)))))
@@ -241,6 +245,7 @@ answered_drawing stand settled stops event quiet kept i n there =
 
 pub answered_turn : (stand : Stand) → IsAnswered stand → IsAnswered (turn stand).1
 answered_turn stand kept = turn_cases stand (λ m. IsAnswered m.1)
+    kept
     kept
     kept
     (answered_drawing stand (Some held.Nothing) [] (Settle (drawn stand) (how.Own Disposed)) (λ i. refl) kept)

@@ -19,9 +19,10 @@ use Rattle.isolate_meaning.specs.Laws.{calls}
 use Rattle.isolate_meaning.proofs.Replies.{replies_of_journal}
 use Rattle.host_syntax.specs.declared.script.HostScript.{HostScript}
 use Rattle.host_syntax.specs.Whole.{IsWhole}
+use Rattle.host_meaning.specs.declared.moves.Move.{Move}
 use Rattle.host_meaning.specs.declared.moves.Move.TheVariants as move
 use Rattle.host_meaning.specs.Stand.{Stand, drawn}
-use Rattle.host_meaning.specs.Machine.{HostRun, HostStep, turn, received, replies_of, MayReceive, IsReply}
+use Rattle.host_meaning.specs.Machine.{DoesCommand, HostRun, HostStep, turn, received, replies_of, MayReceive, IsReply}
 use Rattle.host_meaning.specs.Machine.HostRun.{begins, goes}
 use Rattle.host_meaning.specs.Machine.HostStep.{turns, receives_one}
 use Rattle.host_meaning.specs.Course.{Worker, Scene, opening, Course, Moves}
@@ -59,12 +60,12 @@ holds_opening script = record {
 
 -- ---- moves of the host
 
-step_to : (stand : Stand) → (turn stand).0 ≢ move.Blocked → HostStep stand (turn stand).1
-step_to stand goes_on = turns goes_on refl
+step_to : (stand : Stand) (m : Move) → (turn stand).0 ≡ m → DoesCommand m → HostStep stand (turn stand).1
+step_to stand m is does = turns (subst DoesCommand (sym is) does) refl
 
 holds_own : (script : HostScript) (scene : Scene) → Holds script scene → (turn scene.stand).0 ≡ move.Own → Holds script (scene_with (turn scene.stand).1 scene.workers)
 holds_own script scene holds own =
-    let run : HostRun script (turn scene.stand).1 = goes holds.run (step_to scene.stand (λ b. cc)) in
+    let run : HostRun script (turn scene.stand).1 = goes holds.run (step_to scene.stand move.Own own tt) in
     own_cases scene.stand (λ s. HostRun script s → IsAnswered s → Holds script (scene_with s scene.workers)) own
     (λ run answered. record { run = run; count = holds.count; within = holds.within; answered = answered; beside = holds.beside })
     (λ run answered. record {
@@ -77,7 +78,7 @@ holds_own script scene holds own =
     run (answered_turn scene.stand holds.answered)
 
 -- each isolate carries out what was posted to it, and is heard, in order
-served : (script : HostScript) (scene : Scene) → Holds script scene → (i : ℕ) → IsServed i scene.stand.history
+pub served : (script : HostScript) (scene : Scene) → Holds script scene → (i : ℕ) → IsServed i scene.stand.history
 served script scene holds i =
     let worker = worker_at scene.workers i in
     let beside = holds.beside i in
@@ -88,7 +89,7 @@ holds_post : (script : HostScript) (scene : Scene) (i : ℕ) (task : Task) (work
 holds_post script scene i task worker whole holds posted at =
     let stand = scene.stand in
     let new : Worker = record worker { waiting = worker.waiting ++ task ∷ [] } in
-    let run : HostRun script (turn stand).1 = goes holds.run (step_to stand (λ b. cc)) in
+    let run : HostRun script (turn stand).1 = goes holds.run (step_to stand (move.Post i task) posted tt) in
     let is = turn_post stand i task posted in
     let known = posts_known script stand whole holds.run (λ j _. served script scene holds j) i task posted in
     let l : i < length scene.workers = slice_get_within scene.workers i worker at in
@@ -105,7 +106,7 @@ holds_post script scene i task worker whole holds posted at =
 holds_ask : (script : HostScript) (scene : Scene) (i : ℕ) → IsWhole script → Holds script scene → (turn scene.stand).0 ≡ move.Ask i → Holds script (scene_with (turn scene.stand).1 scene.workers)
 holds_ask script scene i whole holds asks =
     let stand = scene.stand in
-    let run : HostRun script (turn stand).1 = goes holds.run (step_to stand (λ b. cc)) in
+    let run : HostRun script (turn stand).1 = goes holds.run (step_to stand (move.Ask i) asks tt) in
     let is = turn_ask stand i asks in
     let l = ask_within script stand i whole (script_run script stand holds.run) asks in
     let within : (j : ℕ) → is_asked j (stand.history ++ Ask i ∷ []) ≡ true → j < length script.isolates = λ j asked.

@@ -35,9 +35,9 @@ get_or-push_here (y ∷ xs) x d = get_or-push_here xs x d
 
 -- ---- a command that makes a context
 
-pub context_request : (stand : Stand) (wanted : What) (isolate : ℕ) → context_of wanted ≡ Some isolate → request stand wanted ≡ asks_task isolate default_budget kind.Context
+pub context_request : (stand : Stand) (wanted : What) (isolate : ℕ) → context_of wanted ≡ Some isolate → request stand wanted ≡ asks_task (Some isolate) default_budget (Some kind.Context)
 context_request stand what.Declare isolate is = cc
-context_request stand (what.Context i) isolate is = let same : i ≡ isolate = cc in ap (λ x. asks_task x default_budget kind.Context) same
+context_request stand (what.Context i) isolate is = let same : i ≡ isolate = cc in ap (λ x. asks_task (Some x) default_budget (Some kind.Context)) same
 context_request stand (what.Eval context budget want text) isolate is = cc
 context_request stand (what.Get target key want) isolate is = cc
 context_request stand (what.Set target key value) isolate is = cc
@@ -100,7 +100,7 @@ fates_passing stand may kept k isolate command at makes below =
     full here =
         let same : may.command ≡ command = cc (here, may.at) in
         elim may.why as (λ x. nat_le most_calls (drawn stand) ≡ true) [
-          | inl nothing ↦ (let is : request stand may.command.what ≡ asks_task isolate default_budget kind.Context = ap (λ (c : Command). request stand c.what) same ∙ context_request stand command.what isolate makes in cc)
+          | inl nothing ↦ (let is : request stand may.command.what ≡ asks_task (Some isolate) default_budget (Some kind.Context) = ap (λ (c : Command). request stand c.what) same ∙ context_request stand command.what isolate makes in cc)
           | inr is ↦ is
         ]
 
@@ -124,7 +124,7 @@ fates_drawing stand settled stops event new kept k isolate command at makes belo
     ]
 
 -- the request of the command at the place, where that makes a context
-asked_context : (stand : Stand) (wanted : Request) (isolate : ℕ) (command : Command) → IsAsked stand wanted → slice_get stand.script.commands (place stand) ≡ Some command → context_of command.what ≡ Some isolate → wanted ≡ asks_task isolate default_budget kind.Context
+asked_context : (stand : Stand) (wanted : Request) (isolate : ℕ) (command : Command) → IsAsked stand wanted → slice_get stand.script.commands (place stand) ≡ Some command → context_of command.what ≡ Some isolate → wanted ≡ asks_task (Some isolate) default_budget (Some kind.Context)
 asked_context stand wanted isolate command asked at makes =
     let same : asked.command ≡ command = cc (at, asked.at) in
     sym asked.is ∙ ap (λ (c : Command). request stand c.what) same ∙ context_request stand command.what isolate makes
@@ -139,7 +139,7 @@ fate_refused stand event refused isolate command at makes =
 fate_posted : (stand : Stand) (i budget : ℕ) (made : TaskKind) → MayPost stand i budget made → (isolate : ℕ) (command : Command) → slice_get stand.script.commands (place stand) ≡ Some command → context_of command.what ≡ Some isolate
     → PostsContext (stand.history ++ Post i (task_of stand budget made) ∷ []) isolate (drawn stand)
 fate_posted stand i budget made may isolate command at makes =
-    let is = asked_context stand (asks_task i budget made) isolate command may.asked at makes in
+    let is = asked_context stand (asks_task (Some i) budget (Some made)) isolate command may.asked at makes in
     let same : i ≡ isolate = cc in
     subst (λ j. PostsContext (stand.history ++ Post i (task_of stand budget made) ∷ []) j (drawn stand)) same
     (record {
@@ -154,6 +154,7 @@ fate_posted stand i budget made may isolate command at makes =
 fates_turn : (stand : Stand) → ContextsHaveFates stand → ContextsHaveFates (turn stand).1
 fates_turn stand kept = turn_cases_shown stand (λ m. ContextsHaveFates m.1)
     kept
+    (λ _. kept)
     (λ may. fates_passing stand may kept)
     (λ refused. fates_drawing stand (Some held.Nothing) [] (Settle (drawn stand) (how.Own Disposed)) (λ isolate command at makes. inl (fate_refused stand (Settle (drawn stand) (how.Own Disposed)) refused isolate command at makes)) kept)
     (λ i budget made may. fates_drawing stand None [] (Post i (task_of stand budget made)) (λ isolate command at makes. inr (fate_posted stand i budget made may isolate command at makes)) kept)

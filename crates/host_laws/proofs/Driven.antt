@@ -18,9 +18,9 @@ use Rattle.host_syntax.specs.declared.script.HostScript.{HostScript}
 use Rattle.host_syntax.specs.declared.script.IsolateDecl.{IsolateDecl}
 use Rattle.host_syntax.specs.Whole.{IsWhole}
 use Rattle.host_meaning.specs.declared.moves.Move.{Move}
-use Rattle.host_meaning.specs.declared.moves.Move.TheVariants.{Post, Ask, Own, Blocked}
+use Rattle.host_meaning.specs.declared.moves.Move.TheVariants.{Post, Ask, Own, Blocked, NoTarget}
 use Rattle.host_meaning.specs.Stand.{Stand, beginning, place}
-use Rattle.host_meaning.specs.Machine.{HostRun, turn, received, received_all, MayReceive}
+use Rattle.host_meaning.specs.Machine.{DoesCommand, HostRun, turn, received, received_all, MayReceive}
 use Rattle.host_meaning.specs.Course.{Worker, Course, all_idle, record_of}
 use Rattle.host_meaning.specs.Course.Course.{moves}
 use Rattle.host_meaning.specs.Course.Moves.{host_posts}
@@ -35,6 +35,7 @@ use Rattle.host_laws.proofs.Targets.{post_within, ask_within, turn_blocked}
 use Rattle.host_laws.proofs.Workers.{scene_with, get_set}
 use Rattle.host_laws.proofs.Sent.{by_entry}
 use Rattle.host_laws.proofs.AnyOrder.{Holds, holds_course}
+use Rattle.host_laws.proofs.CallTargets.{courses_have_targets}
 use Rattle.host_laws.proofs.OneThread.{one_thread_course, one_thread_rests}
 use Rattle.host_laws.proofs.Rest.{first_fits, course_is_lawful}
 
@@ -91,11 +92,11 @@ fresh_more decls k d l = ap (λ n. fresh_cells 0 (take n decls)) (add-one k) ∙
 
 -- ---- the loop ends
 
-fewer_left : (stand next last : Stand) (m : Move) (i : ℕ) (sent : List Out) → (m, next) ≡ turn stand → m ≢ Blocked → last ≡ received_all next i sent
+fewer_left : (stand next last : Stand) (m : Move) (i : ℕ) (sent : List Out) → (m, next) ≡ turn stand → DoesCommand m → last ≡ received_all next i sent
     → length stand.script.commands - place last < length stand.script.commands - place stand
 fewer_left stand next last m i sent is on heard =
     elim (turn_goes stand) as (λ x. length stand.script.commands - place last < length stand.script.commands - place stand) [
-      | inl stays ↦ absurd (on (ap (λ x. x.0) (is ∙ stays)))
+      | inl stays ↦ absurd (stays.none (subst DoesCommand (ap (λ x. x.0) is) on))
       | inr goes_on ↦
           (let more = goes_on.next in
           let was = goes_on.was_there in
@@ -119,12 +120,16 @@ module _ (script : HostScript) (stand : Stand) (cells : List Kept) (whole : IsWh
   script_of_cells = script_run script stand holds.run
 
   -- after a command fewer are left
-  pub fewer_commands : (next last : Stand) (m : Move) (i : ℕ) (sent : List Out) → (m, next) ≡ turn stand → m ≢ Blocked → last ≡ received_all next i sent
+  pub fewer_commands : (next last : Stand) (m : Move) (i : ℕ) (sent : List Out) → (m, next) ≡ turn stand → DoesCommand m → last ≡ received_all next i sent
       → length script.commands - place last < length script.commands - place stand
   fewer_commands next last m i sent is on heard =
       let fewer = fewer_left stand next last m i sent is on heard in
       let same = ap (λ (s : HostScript). length s.commands) script_of_cells in
       grind (arith, fewer, same)
+
+  -- no call is without its target
+  pub has_target : (next : Stand) (m : Move) → (m, next) ≡ turn stand → m ≢ NoTarget
+  has_target next m is lost = courses_have_targets script whole (scene_of stand cells) course (sym (ap (λ x. x.0) is) ∙ lost)
 
   -- a host that can't go on has the same script
   pub ends_with_script : (next : Stand) (m : Move) (given : HostScript) → (m, next) ≡ turn stand → m ≡ Blocked → given ≡ next.script → given ≡ script

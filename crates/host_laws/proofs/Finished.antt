@@ -78,6 +78,7 @@ of_turn script stand whole kept =
     turn_cases stand (λ m. MovesTo n m.0 → IsOfScript n m.1.history)
     (λ _. kept)
     (λ _. kept)
+    (λ _. kept)
     (λ _. of_push n stand.history (Settle (drawn stand) (how.Own Disposed)) (λ i past. refl) (λ i past. refl) (λ i is. never i n is) kept)
     (λ j budget kind _ l. of_push n stand.history (Post j (task_of stand budget kind)) (λ i past. other_if i j (task_of stand budget kind ∷ []) [] (other_than i j n past l)) (λ i past. refl) (λ i is. never i n is) kept)
     (λ j _ l. of_push n stand.history (Ask j) (λ i past. refl) (λ i past. refl) (λ i is. let same : i ≡ j = eqb-true i j is in subst (λ k. k < n) (sym same) l) kept)

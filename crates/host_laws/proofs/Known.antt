@@ -2,10 +2,12 @@
 use Rattle.std.proofs.Common.{◌≡◌, ℕ, ◌<◌, List, [], ◌∷◌, ◌++◌, length, Bool, true, false, not, nat_le, ◌==◌, ◌||◌, if◌then◌else◌, Option, Some, None, refl, subst, sym, ap, ◌∙◌, arith, ◌⊎◌, inl, inr, slice_get, slice_index_or}
 use Rattle.std.proofs.lemmas.List.Elements.{Contains-append_left, Contains-append_right, Contains-append_cases, Contains-push_cases}
 use Rattle.std.specs.List.{Contains}
-use Rattle.std.specs.Option.{option_map_or}
+use Rattle.std.specs.Option.{option_map, option_map_or}
 use Rattle.ivm_text.specs.declared.copies.Leaf.{Leaf}
 use Rattle.ivm_text.specs.declared.copies.Leaf.TheVariants.{Undefined, Null, Bool as Boolean, Num, Node}
 use Rattle.task_history.specs.Lists.{posts, receives, tasks, outs, listed, is_gone, is_asked, has_ended, is_disposal, tells_disposal, receive_of, tells_end}
+use Rattle.task_history.specs.declared.task.Act.{Act}
+use Rattle.task_history.specs.declared.task.Act.TheVariants as act
 use Rattle.task_history.specs.declared.task.Task.{Task}
 use Rattle.task_history.specs.declared.task.TaskKind.{TaskKind}
 use Rattle.task_history.specs.declared.task.TaskKind.TheVariants as kind
@@ -18,7 +20,7 @@ use Rattle.task_history.specs.declared.record.Entry.{Entry}
 use Rattle.task_history.specs.declared.record.Event.{Event}
 use Rattle.task_history.specs.declared.record.Event.TheVariants.{Post, Recv, Ask, Release, Settle}
 use Rattle.isolate_meaning.specs.State.{State, live, ended, Isolate, fresh, cells_of}
-use Rattle.isolate_meaning.specs.Fits.{IsPlainLeaf, IsPrimitive}
+use Rattle.isolate_meaning.specs.Fits.{IsPlainLeaf, IsPrimitive, IsSoundAct}
 use Rattle.isolate_meaning.specs.Does.{DoesTo, acts, refuses, stop_entry}
 use Rattle.isolate_meaning.specs.Replay.{Replay, Stands}
 use Rattle.isolate_meaning.specs.Known.{TellsContext, IsKnown}
@@ -34,9 +36,10 @@ use Rattle.host_syntax.specs.Whole.{IsWhole, NamesEarlier, MakesContext, context
 use Rattle.host_meaning.specs.declared.moves.Held.{Held}
 use Rattle.host_meaning.specs.declared.moves.Move.TheVariants as move
 use Rattle.host_meaning.specs.Stand.{Stand, place, drawn, is_there, is_settled, number_of, is_label_settled, held_of, held_at}
-use Rattle.host_meaning.specs.Machine.{Request, asks_nothing, asks_task, asks_stop, request, is_blocked, isolate_of, context_in, row_in, argument_of, most_calls, task_of, held_by, HostRun}
+use Rattle.host_meaning.specs.Machine.{Request, asks_nothing, asks_task, asks_stop, act_on, default_budget, eval_in, request, is_blocked, isolate_of, context_in, row_in, argument_of, most_calls, task_of, held_by, HostRun}
 use Rattle.host_laws.specs.Known.{IsServed, AreServed, PostsKnown}
-use Rattle.host_laws.proofs.Turns.{turn_cases, MayPost, script_run}
+use Rattle.host_laws.proofs.Turns.{turn_cases, IsAsked, MayPost, script_run}
+use Rattle.host_laws.proofs.Targets.{made_in}
 use Rattle.host_laws.proofs.Lists.{none_there, place_of}
 use Rattle.host_laws.proofs.Accounted.{IsPosted, posted_once}
 use Rattle.host_laws.proofs.Contexts.{PostsContext, ContextFate, contexts_have_fates}
@@ -135,6 +138,14 @@ ended_by_receipt i (event ∷ history) out here tells =
 
 -- ---- a context that a command may name
 
+-- a settlement holds a context, with the row of its global object, that these outs tell
+pub record HoldsTold (outs : List Out) (settled : Option Held) : Type 0 where
+  pub context : ℕ
+  pub row : ℕ
+  pub has_context : context_in settled ≡ Some context
+  pub has_row : row_in settled ≡ Some row
+  pub told : TellsContext outs context row
+
 module _ (script : HostScript) (stand : Stand) (run : HostRun script stand) (served : AreServed stand.script stand.history) where
   -- a reply to a task of this call, posted to this isolate to make a context, came from this isolate and answers that
   answers : (isolate n j : ℕ) (out : Outcome) → PostsContext stand.history isolate n → j < length stand.script.isolates → Contains (receives j stand.history) (Reply (Some n) out) → (j ≡ isolate) × AnswersContext out
@@ -159,16 +170,22 @@ module _ (script : HostScript) (stand : Stand) (run : HostRun script stand) (ser
 
   -- what such a reply makes of the call
   told_by : (isolate n : ℕ) (now : Held) (out : Outcome) → is_gone isolate stand.history ≡ false → Contains (receives isolate stand.history) (Reply (Some n) out) → now ≡ held_by out → AnswersContext out
-      → TellsContext (receives isolate stand.history) (context_in (Some now)) (row_in (Some now))
+      → HoldsTold (receives isolate stand.history) (Some now)
   told_by isolate n now out here heard is (inl (c, row, makes)) =
-      subst (λ h. TellsContext (receives isolate stand.history) (context_in (Some h)) (row_in (Some h))) (sym (is ∙ ap held_by makes))
-      (Some n, subst (λ o. Contains (receives isolate stand.history) (Reply (Some n) o)) makes heard)
+      subst (λ h. HoldsTold (receives isolate stand.history) (Some h)) (sym (is ∙ ap held_by makes))
+      (record {
+        context = c;
+        row = row;
+        has_context = refl;
+        has_row = refl;
+        told = (Some n, subst (λ o. Contains (receives isolate stand.history) (Reply (Some n) o)) makes heard);
+      })
   told_by isolate n now out here heard is (inr over) =
       let gone : is_gone isolate stand.history ≡ true = or_right (is_asked isolate stand.history) (has_ended isolate stand.history) (ended_by_receipt isolate stand.history (Reply (Some n) out) heard over) in
       let no : ⊥ = cc in absurd no
 
   by_call : (isolate n : ℕ) (call : Option Held) → slice_index_or stand.calls n None ≡ call → PostsContext stand.history isolate n → is_there call ≡ true → is_gone isolate stand.history ≡ false
-      → TellsContext (receives isolate stand.history) (context_in call) (row_in call)
+      → HoldsTold (receives isolate stand.history) call
   by_call isolate n None is posted settled here = let no : ⊥ = cc in absurd no
   by_call isolate n (Some now) is posted settled here =
       let replied : IsReplied stand n now = held_are_replied script stand run n now is (record { isolate = isolate; place = posted.place; task = posted.task; at = posted.at; named = posted.named }) in
@@ -176,19 +193,17 @@ module _ (script : HostScript) (stand : Stand) (run : HostRun script stand) (ser
       told_by isolate n now replied.outcome here (subst (λ j. Contains (receives j stand.history) (Reply (Some n) replied.outcome)) answer.0 replied.heard) replied.is answer.1
 
   by_number : (isolate : ℕ) (number : Option ℕ) → ContextFate stand isolate number → option_map_or (is_settled stand) number true ≡ true → nat_le most_calls (drawn stand) ≡ false → is_gone isolate stand.history ≡ false
-      → TellsContext (receives isolate stand.history) (context_in (held_of stand number)) (row_in (held_of stand number))
+      → HoldsTold (receives isolate stand.history) (held_of stand number)
   by_number isolate None full settled room here = let no : ⊥ = cc in absurd no
   by_number isolate (Some n) (inl gone) settled room here = let no : ⊥ = cc in absurd no
   by_number isolate (Some n) (inr posted) settled room here = by_call isolate n (slice_index_or stand.calls n None) refl posted settled here
 
   -- where a command's context is settled and its isolate isn't gone, the isolate told the context
-  pub context_told : (k : ℕ) → MakesContext stand.script.commands (place stand) k → is_label_settled stand k ≡ true → nat_le most_calls (drawn stand) ≡ false → is_gone (isolate_of stand.script k) stand.history ≡ false
-      → TellsContext (receives (isolate_of stand.script k) stand.history) (context_in (held_at stand k)) (row_in (held_at stand k))
-  context_told k (command, isolate, below, at, makes) settled room here =
-      let same : isolate_of stand.script k ≡ isolate =
-      ap (λ c. option_map_or (λ (c : Command). option_map_or (λ i. i) (context_of c.what) 0) c 0) at ∙ ap (λ i. option_map_or (λ i. i) i 0) makes in
-      subst (λ i. TellsContext (receives i stand.history) (context_in (held_at stand k)) (row_in (held_at stand k))) (sym same)
-      (by_number isolate (number_of stand k) (contexts_have_fates script stand run k isolate command at makes below) settled room (subst (λ i. is_gone i stand.history ≡ false) same here))
+  pub context_told : (k isolate : ℕ) → MakesContext stand.script.commands (place stand) k → isolate_of stand.script k ≡ Some isolate → is_label_settled stand k ≡ true → nat_le most_calls (drawn stand) ≡ false → is_gone isolate stand.history ≡ false
+      → HoldsTold (receives isolate stand.history) (held_at stand k)
+  context_told k isolate (command, maker, below, at, makes) is settled room here =
+      let same : maker ≡ isolate = cc (made_in stand.script (place stand) k (command, maker, below, at, makes), is) in
+      by_number isolate (number_of stand k) (contexts_have_fates script stand run k isolate command at (makes ∙ ap (λ i. Some i) same) below) settled room here
 
 -- ---- what a request asks for
 
@@ -202,48 +217,89 @@ plain_leaf (Node n) is = absurd is
 plain_argument : (value : HostArgument) → IsArgument value → IsPrimitive (argument_of value)
 plain_argument (Literal copy) is = (is.0, plain_leaf copy.root is.1)
 
--- what a task that is asked for names, was told by its isolate, unless that is gone
-abbrev AsksForKnown : List Event → Request → Type 0
+-- the kind of a task that is asked for is there, and what it names was told in these outs
+pub record NamesTold (outs : List Out) (budget : ℕ) (kind : Option TaskKind) : Type 0 where
+  pub one : TaskKind
+  pub is : kind ≡ Some one
+  pub known : (call : Option ℕ) → IsKnown outs (record { call = call; budget = budget; kind = one })
+
+-- what a task that is asked for names is there and was told by its isolate, unless that is gone
+abbrev pub AsksForKnown : List Event → Request → Type 0
 AsksForKnown history asks_nothing = Unit {0}
-AsksForKnown history (asks_task i budget kind) = is_gone i history ≡ false → (call : Option ℕ) → IsKnown (receives i history) (record { call = call; budget = budget; kind = kind })
+AsksForKnown history (asks_task None budget kind) = ⊥
+AsksForKnown history (asks_task (Some i) budget kind) = is_gone i history ≡ false → NamesTold (receives i history) budget kind
 AsksForKnown history (asks_stop i) = Unit {0}
 
 free_label : (settled : Bool) → not settled ≡ false → settled ≡ true
 free_label true is = refl
 free_label false is = cc
 
+-- a task for the isolate in which a command makes a context
+asks_known : (stand : Stand) (k budget : ℕ) (kind : Option TaskKind) → MakesContext stand.script.commands (place stand) k
+    → ((isolate : ℕ) → isolate_of stand.script k ≡ Some isolate → is_gone isolate stand.history ≡ false → NamesTold (receives isolate stand.history) budget kind)
+    → AsksForKnown stand.history (asks_task (isolate_of stand.script k) budget kind)
+asks_known stand k budget kind makes each =
+    let is = made_in stand.script (place stand) k makes in
+    subst (λ isolate. AsksForKnown stand.history (asks_task isolate budget kind)) (sym is) (each makes.1 is)
+
+-- something is done with a row that was told
+act_known : (outs : List Out) (settled : Option Held) (wanted : Act) → IsSoundAct wanted → HoldsTold outs settled → NamesTold outs default_budget (act_on settled wanted)
+act_known outs settled wanted sound held = record {
+  one = kind.Act held.row wanted;
+  is = ap (option_map (λ row. kind.Act row wanted)) held.has_row;
+  known = λ call. record { sound = record { kind = sound; some = grind arith; most = grind arith }; names = (held.context, held.told) };
+}
+
 module _ (script : HostScript) (stand : Stand) (run : HostRun script stand) (served : AreServed stand.script stand.history) (room : nat_le most_calls (drawn stand) ≡ false) where
-  known_request : (wanted : What) → NamesEarlier stand.script (place stand) wanted → is_blocked stand wanted ≡ false → AsksForKnown stand.history (request stand wanted)
+  holds_told : (k isolate : ℕ) → MakesContext stand.script.commands (place stand) k → not (is_label_settled stand k) ≡ false → isolate_of stand.script k ≡ Some isolate → is_gone isolate stand.history ≡ false
+      → HoldsTold (receives isolate stand.history) (held_at stand k)
+  holds_told k isolate makes free is here = context_told script stand run served k isolate makes is (free_label (is_label_settled stand k) free) room here
+
+  pub known_request : (wanted : What) → NamesEarlier stand.script (place stand) wanted → is_blocked stand wanted ≡ false → AsksForKnown stand.history (request stand wanted)
   known_request what.Declare names free = tt
-  known_request (what.Context isolate) names free = λ here call. record { sound = record { kind = tt; some = grind arith; most = grind arith }; names = tt }
-  known_request (what.Eval context budget want text) names free = λ here call. record {
-    sound = record { kind = names.3; some = names.1; most = names.2 };
-    names = (row_in (held_at stand context), context_told script stand run served context names.0 (free_label (is_label_settled stand context) free) room here);
+  known_request (what.Context isolate) names free = λ here. record {
+    one = kind.Context;
+    is = refl;
+    known = λ call. record { sound = record { kind = tt; some = grind arith; most = grind arith }; names = tt };
   }
-  known_request (what.Get target key want) names free = λ here call. record {
-    sound = record { kind = names.1; some = grind arith; most = grind arith };
-    names = (context_in (held_at stand target), context_told script stand run served target names.0 (free_label (is_label_settled stand target) free) room here);
-  }
-  known_request (what.Set target key value) names free = λ here call. record {
-    sound = record { kind = plain_argument value names.1; some = grind arith; most = grind arith };
-    names = (context_in (held_at stand target), context_told script stand run served target names.0 (free_label (is_label_settled stand target) free) room here);
-  }
+  known_request (what.Eval context budget want text) names free =
+      asks_known stand context budget (eval_in (held_at stand context) text want) names.0 (λ isolate is here.
+      (let held = holds_told context isolate names.0 free is here in
+      record {
+        one = kind.Eval held.context text want;
+        is = ap (option_map (λ c. kind.Eval c text want)) held.has_context;
+        known = λ call. record { sound = record { kind = names.3; some = names.1; most = names.2 }; names = (held.row, held.told) };
+      }))
+  known_request (what.Get target key want) names free =
+      asks_known stand target default_budget (act_on (held_at stand target) (act.Get key want)) names.0
+      (λ isolate is here. act_known (receives isolate stand.history) (held_at stand target) (act.Get key want) names.1 (holds_told target isolate names.0 free is here))
+  known_request (what.Set target key value) names free =
+      asks_known stand target default_budget (act_on (held_at stand target) (act.Set key (argument_of value))) names.0
+      (λ isolate is here. act_known (receives isolate stand.history) (held_at stand target) (act.Set key (argument_of value)) (plain_argument value names.1) (holds_told target isolate names.0 free is here))
   known_request (what.Dispose isolate) names free = tt
   known_request (what.Wait target) names free = tt
+
+  -- so it is with what the next command asks for
+  pub asked_known : (wanted : Request) → IsWhole stand.script → IsAsked stand wanted → AsksForKnown stand.history wanted
+  asked_known wanted whole asked =
+      subst (AsksForKnown stand.history) asked.is (known_request asked.command.what (whole.in_place (place stand) asked.command asked.at).names asked.free)
 
 -- ---- what is posted
 
 known_if_posted : (script : HostScript) (stand : Stand) → IsWhole stand.script → HostRun script stand → AreServed stand.script stand.history
     → (i budget : ℕ) (kind : TaskKind) → MayPost stand i budget kind → IsKnown (receives i stand.history) (task_of stand budget kind)
 known_if_posted script stand whole run served i budget kind may =
-    let asked = may.asked in
-    let known : AsksForKnown stand.history (request stand asked.command.what) =
-    known_request script stand run served asked.room asked.command.what (whole.in_place (place stand) asked.command asked.at).names asked.free in
-    (subst (AsksForKnown stand.history) asked.is known) may.here (Some (drawn stand))
+    let told = asked_known script stand run served may.asked.room (asks_task (Some i) budget (Some kind)) whole may.asked may.here in
+    let same : told.one ≡ kind = some_kind told.one kind told.is in
+    subst (λ k. IsKnown (receives i stand.history) (task_of stand budget k)) same (told.known (Some (drawn stand)))
+  where
+    some_kind : (one other : TaskKind) → Some other ≡ Some one → one ≡ other
+    some_kind one other e = cc
 
 posts_known_at : (script : HostScript) (stand : Stand) → IsWhole stand.script → HostRun script stand → AreServed stand.script stand.history → PostsKnown stand
 posts_known_at script stand whole run served i task =
     turn_cases stand (λ m. m.0 ≡ move.Post i task → IsKnown (receives i stand.history) task)
+    (λ e. let no : ⊥ = cc in absurd no)
     (λ e. let no : ⊥ = cc in absurd no)
     (λ e. let no : ⊥ = cc in absurd no)
     (λ e. let no : ⊥ = cc in absurd no)

@@ -14,6 +14,7 @@ pub mod Targets
 pub mod Workers
 pub mod Sent
 pub mod AnyOrder
+pub mod CallTargets
 pub mod Finished
 pub mod Stays
 pub mod Rest

@@ -45,6 +45,7 @@ pub numbers_are_drawn : (script : HostScript) (stand : Stand) → HostRun script
 numbers_are_drawn script = run_keeps script NumbersAreDrawn (λ k n is. cc)
     (λ s run kept. turn_cases s (λ m. NumbersAreDrawn m.1)
     kept
+    kept
     (numbers_passing s kept)
     (numbers_drawing s (Some held.Nothing) [] (Settle (drawn s) (how.Own Disposed)) kept)
     (λ i budget kind _. numbers_drawing s None [] (Post i (task_of s budget kind)) kept)
@@ -62,7 +63,7 @@ IsWithin stand = place stand ≤ length stand.script.commands
 pub place_within : (script : HostScript) (stand : Stand) → HostRun script stand → IsWithin stand
 place_within script = run_keeps script IsWithin (grind arith)
     (λ s run kept. elim (turn_goes s) as (λ x. IsWithin (turn s).1) [
-      | inl stays ↦ subst (λ m. IsWithin m.1) (sym stays) kept
+      | inl stays ↦ subst IsWithin (sym stays.still) kept
       | inr goes ↦ (let next = goes.next in let was = goes.was_there in let same = ap (λ x. length x.commands) (script_turn s) in grind (arith, next, was, same))
     ])
     (λ s i out run kept. subst (λ x. length x ≤ length (received s i out).script.commands) (sym (numbers_received s i out)) (subst (λ x. place s ≤ length x.commands) (sym (script_received s i out)) kept))

@@ -100,6 +100,7 @@ replied_posting stand i budget kind kept n now is posted =
 replied_turn : (stand : Stand) → PostsDrawn stand → HeldAreReplied stand → HeldAreReplied (turn stand).1
 replied_turn stand below kept = turn_cases stand (λ m. HeldAreReplied m.1)
     kept
+    kept
     (λ n now is posted. replied_moves stand (passing stand) n now refl [] (sym (append-nil stand.history)) (kept n now is posted))
     (replied_quiet stand (Some held.Nothing) [] (Settle (drawn stand) (how.Own Disposed)) (λ i. refl) below kept)
     (λ i budget kind _. replied_posting stand i budget kind kept)

@@ -84,6 +84,7 @@ once_turn : (stand : Stand) (n : ℕ) → IsSettledOnce stand n → IsSettledOnc
 once_turn stand n kept = turn_cases stand (λ m. IsSettledOnce m.1 n)
     kept
     kept
+    kept
     (once_drawing stand (Some held.Nothing) [] (Settle (drawn stand) (how.Own Disposed)) n (grind arith) kept)
     (λ i budget kind _. once_drawing stand None [] (Post i (task_of stand budget kind)) n (let z = same_both (drawn stand) n 0 in grind (arith, z)) kept)
     (λ i _. once_drawing stand (Some held.Nothing) (drawn stand ∷ []) (Ask i) n (let c = count_one (λ stop. n == stop) (drawn stand) in grind (arith, c)) kept)

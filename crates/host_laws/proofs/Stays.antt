@@ -26,6 +26,7 @@ stays_at_turns i limit worker stand nothing beside =
     turn_cases stand (λ m. PostsNothing i m.0 → IsBeside i limit m.1.history worker)
     (λ _. beside)
     (λ _. beside)
+    (λ _. beside)
     (λ _. beside_quiet i limit stand.history (Settle (drawn stand) (how.Own Disposed)) worker refl refl tt beside)
     (λ j budget kind _ other. beside_quiet i limit stand.history (Post j (task_of stand budget kind)) worker (other_if i j (task_of stand budget kind ∷ []) [] other) refl tt beside)
     (λ j _ _. beside_quiet i limit stand.history (Ask j) worker refl refl tt beside)

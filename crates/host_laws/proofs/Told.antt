@@ -87,6 +87,7 @@ told script = run_keeps script (λ s. SettlesByReplies s.history) (λ n i p ther
     (λ s run kept. turn_cases s (λ m. SettlesByReplies m.1.history)
     kept
     kept
+    kept
     (told_push s.history (Settle (drawn s) (how.Own Disposed)) (own_is_no_entry (drawn s)) kept)
     (λ i budget kind _. told_push s.history (Post i (task_of s budget kind)) (λ n j p e. cc) kept)
     (λ i _. told_push s.history (Ask i) (λ n j p e. cc) kept))

@@ -4,14 +4,15 @@ use Rattle.std.proofs.lemmas.Option.{slice_get_within}
 use Rattle.task_history.specs.Lists.{is_gone}
 use Rattle.task_history.specs.declared.task.TaskKind.{TaskKind}
 use Rattle.task_history.specs.declared.outcome.Outcome.{Outcome}
+use Rattle.task_history.specs.declared.record.Event.{Event}
 use Rattle.task_history.specs.declared.outcome.Out.{Out}
 use Rattle.task_history.specs.declared.outcome.Out.TheVariants.{Call, Log, AskTable, Reply}
 use Rattle.host_syntax.specs.declared.script.HostScript.{HostScript}
 use Rattle.host_syntax.specs.declared.script.Command.{Command}
 use Rattle.host_meaning.specs.declared.moves.Move.{Move}
-use Rattle.host_meaning.specs.declared.moves.Move.TheVariants.{Post, Ask, Own, Blocked}
+use Rattle.host_meaning.specs.declared.moves.Move.TheVariants.{Post, Ask, Own, Blocked, NoTarget}
 use Rattle.host_meaning.specs.Stand.{Stand, beginning, place, drawn}
-use Rattle.host_meaning.specs.Machine.{Request, asks_nothing, asks_task, asks_stop, request, is_blocked, most_calls, task_of, passing, refusing, posting, asking, calling, doing, by_command, turn, is_open, hearing, settling, received, received_all, MayReceive, HostRun}
+use Rattle.host_meaning.specs.Machine.{Request, asks_nothing, asks_task, asks_stop, request, is_blocked, most_calls, task_of, passing, refusing, posting, asking, tasking, calling, doing, by_command, turn, is_open, hearing, settling, received, received_all, MayReceive, DoesCommand, HostRun}
 use Rattle.host_meaning.specs.Machine.HostStep.{turns, receives_one}
 use Rattle.host_meaning.specs.Machine.HostRun.{begins, goes}
 
@@ -31,7 +32,7 @@ pub record IsAsked (stand : Stand) (asked : Request) : Type 0 where
 
 -- a task that is posted, and an isolate that is asked to stop
 pub record MayPost (stand : Stand) (i budget : ℕ) (kind : TaskKind) : Type 0 where
-  pub asked : IsAsked stand (asks_task i budget kind)
+  pub asked : IsAsked stand (asks_task (Some i) budget (Some kind))
   pub here : is_gone i stand.history ≡ false
 
 pub record MayAsk (stand : Stand) (i : ℕ) : Type 0 where
@@ -47,7 +48,8 @@ pub record MayPass (stand : Stand) : Type 0 where
 -- the isolate to which a request goes
 abbrev pub GoesTo : Request → ℕ → Type 0
 GoesTo asks_nothing i = ⊥
-GoesTo (asks_task j budget kind) i = j ≡ i
+GoesTo (asks_task None budget kind) i = ⊥
+GoesTo (asks_task (Some j) budget kind) i = j ≡ i
 GoesTo (asks_stop j) i = j ≡ i
 
 -- a call that is refused: its isolate was asked to stop or has told its end
@@ -58,17 +60,37 @@ pub record IsRefused (stand : Stand) : Type 0 where
   pub to : GoesTo wanted isolate
   pub gone : is_gone isolate stand.history ≡ true
 
+-- the isolate of a request isn't there; or it isn't gone, and the context or the row of the task isn't there
+abbrev pub LacksTarget : List Event → Request → Type 0
+LacksTarget history asks_nothing = ⊥
+LacksTarget history (asks_task None budget kind) = Unit {0}
+LacksTarget history (asks_task (Some i) budget None) = is_gone i history ≡ false
+LacksTarget history (asks_task (Some i) budget (Some kind)) = ⊥
+LacksTarget history (asks_stop i) = ⊥
+
+-- a call without its target
+pub record IsLost (stand : Stand) : Type 0 where
+  pub wanted : Request
+  pub asked : IsAsked stand wanted
+  pub lacks : LacksTarget stand.history wanted
+
 module _ (stand : Stand) (P : Move × Stand → Type 0)
     (blocked : P (Blocked, stand))
+    (lost : IsLost stand → P (NoTarget, stand))
     (passed : MayPass stand → P (Own, passing stand))
     (refused : IsRefused stand → P (Own, refusing stand))
     (posted : (i budget : ℕ) (kind : TaskKind) → MayPost stand i budget kind → P (Post i (task_of stand budget kind), posting stand i (task_of stand budget kind)))
     (asked : (i : ℕ) → MayAsk stand i → P (Ask i, asking stand i)) where
+  tasking_cases : (i budget : ℕ) (kind : Option TaskKind) → IsAsked stand (asks_task (Some i) budget kind) → is_gone i stand.history ≡ false → P (tasking stand i budget kind)
+  tasking_cases i budget None is here = lost (record { wanted = asks_task (Some i) budget None; asked = is; lacks = here })
+  tasking_cases i budget (Some kind) is here = posted i budget kind (record { asked = is; here = here })
+
   calling_cases : (wanted : Request) → IsAsked stand wanted → P (calling stand wanted)
   calling_cases asks_nothing is = passed (record { command = is.command; at = is.at; why = inl is.is })
-  calling_cases (asks_task i budget kind) is =
-      if_cases (is_gone i stand.history) P (Own, refusing stand) (Post i (task_of stand budget kind), posting stand i (task_of stand budget kind))
-      (λ gone. refused (record { wanted = asks_task i budget kind; isolate = i; asked = is; to = refl; gone = gone })) (λ here. posted i budget kind (record { asked = is; here = here }))
+  calling_cases (asks_task None budget kind) is = lost (record { wanted = asks_task None budget kind; asked = is; lacks = tt })
+  calling_cases (asks_task (Some i) budget kind) is =
+      if_cases (is_gone i stand.history) P (Own, refusing stand) (tasking stand i budget kind)
+      (λ gone. refused (record { wanted = asks_task (Some i) budget kind; isolate = i; asked = is; to = refl; gone = gone })) (λ here. tasking_cases i budget kind is here)
   calling_cases (asks_stop i) is =
       if_cases (is_gone i stand.history) P (Own, refusing stand) (Ask i, asking stand i)
       (λ gone. refused (record { wanted = asks_stop i; isolate = i; asked = is; to = refl; gone = gone })) (λ here. asked i (record { asked = is; here = here }))
@@ -90,18 +112,25 @@ module _ (stand : Stand) (P : Move × Stand → Type 0)
 
 pub turn_cases : (stand : Stand) (P : Move × Stand → Type 0)
     → P (Blocked, stand)
+    → P (NoTarget, stand)
     → P (Own, passing stand)
     → P (Own, refusing stand)
     → ((i budget : ℕ) (kind : TaskKind) → MayPost stand i budget kind → P (Post i (task_of stand budget kind), posting stand i (task_of stand budget kind)))
     → ((i : ℕ) → MayAsk stand i → P (Ask i, asking stand i))
     → P (turn stand)
-turn_cases stand P blocked passed refused posted asked = turn_cases_shown stand P blocked (λ _. passed) (λ _. refused) posted asked
+turn_cases stand P blocked lost passed refused posted asked =
+    turn_cases_shown stand P blocked (λ _. lost) (λ _. passed) (λ _. refused) posted asked
 
--- a command that posts or asks, or is done by the host alone, isn't blocked
+-- what a call asks for doesn't block
+tasking_goes : (stand : Stand) (i budget : ℕ) (kind : Option TaskKind) → (tasking stand i budget kind).0 ≢ Blocked
+tasking_goes stand i budget None = λ e. cc
+tasking_goes stand i budget (Some kind) = λ e. cc
+
 calling_goes : (stand : Stand) (wanted : Request) → (calling stand wanted).0 ≢ Blocked
 calling_goes stand asks_nothing = λ e. cc
-calling_goes stand (asks_task i budget kind) =
-    if_cases (is_gone i stand.history) (λ (m : Move × Stand). m.0 ≢ Blocked) (Own, refusing stand) (Post i (task_of stand budget kind), posting stand i (task_of stand budget kind)) (λ _ e. cc) (λ _ e. cc)
+calling_goes stand (asks_task None budget kind) = λ e. cc
+calling_goes stand (asks_task (Some i) budget kind) =
+    if_cases (is_gone i stand.history) (λ (m : Move × Stand). m.0 ≢ Blocked) (Own, refusing stand) (tasking stand i budget kind) (λ _ e. cc) (λ _. tasking_goes stand i budget kind)
 calling_goes stand (asks_stop i) =
     if_cases (is_gone i stand.history) (λ (m : Move × Stand). m.0 ≢ Blocked) (Own, refusing stand) (Ask i, asking stand i) (λ _ e. cc) (λ _ e. cc)
 
@@ -128,41 +157,27 @@ why_blocked stand is = why_blocked_by stand (slice_get stand.script.commands (pl
 place_more : (stand : Stand) (number : Option ℕ) → length (stand.numbers ++ number ∷ []) ≡ place stand + 1
 place_more stand number = length-append stand.numbers (number ∷ [])
 
-calling_place : (stand : Stand) (wanted : Request) → place (calling stand wanted).1 ≡ place stand + 1
-calling_place stand asks_nothing = place_more stand None
-calling_place stand (asks_task i budget kind) =
-    if_cases (is_gone i stand.history) (λ (m : Move × Stand). place m.1 ≡ place stand + 1) (Own, refusing stand) (Post i (task_of stand budget kind), posting stand i (task_of stand budget kind))
-    (λ _. place_more stand (Some (drawn stand))) (λ _. place_more stand (Some (drawn stand)))
-calling_place stand (asks_stop i) =
-    if_cases (is_gone i stand.history) (λ (m : Move × Stand). place m.1 ≡ place stand + 1) (Own, refusing stand) (Ask i, asking stand i)
-    (λ _. place_more stand (Some (drawn stand))) (λ _. place_more stand (Some (drawn stand)))
+-- nothing is done
+pub record StandsStill (stand : Stand) (m : Move × Stand) : Type 0 where
+  pub still : m.1 ≡ stand
+  pub none : DoesCommand m.0 → ⊥
 
-doing_place : (stand : Stand) (wanted : Request) → place (doing stand wanted).1 ≡ place stand + 1
-doing_place stand wanted =
-    if_cases (nat_le most_calls (drawn stand)) (λ (m : Move × Stand). place m.1 ≡ place stand + 1) (Own, passing stand) (calling stand wanted)
-    (λ _. place_more stand None) (λ _. calling_place stand wanted)
-
--- a command is done, and the next one is the host's; or nothing is
-pub record GoesOn (stand : Stand) : Type 0 where
-  pub goes_on : (turn stand).0 ≢ Blocked
+-- a command is done, and the next one is the host's
+pub record GoesOn (stand : Stand) (m : Move × Stand) : Type 0 where
   pub was_there : place stand < length stand.script.commands
-  pub next : place (turn stand).1 ≡ place stand + 1
+  pub next : place m.1 ≡ place stand + 1
 
-pub turn_goes : (stand : Stand) → (turn stand ≡ (Blocked, stand)) ⊎ GoesOn stand
-turn_goes stand = by_next (slice_get stand.script.commands (place stand)) refl
-  where
-    by_next : (next : Option Command) → slice_get stand.script.commands (place stand) ≡ next → (turn stand ≡ (Blocked, stand)) ⊎ GoesOn stand
-    by_next None at = inl (ap (by_command stand) at)
-    by_next (Some command) at =
-        let is : turn stand ≡ by_command stand (Some command) = ap (by_command stand) at in
-        if_cases (is_blocked stand command.what) (λ (m : Move × Stand). turn stand ≡ m → (turn stand ≡ (Blocked, stand)) ⊎ GoesOn stand) (Blocked, stand) (doing stand (request stand command.what))
-        (λ _ now. inl now)
-        (λ _ now. inr (record {
-          goes_on = λ e. doing_goes stand (request stand command.what) (ap (λ m. m.0) (sym now) ∙ e);
-          was_there = slice_get_within stand.script.commands (place stand) command at;
-          next = ap (λ m. place m.1) now ∙ doing_place stand (request stand command.what);
-        }))
-        is
+command_there : (stand : Stand) (command : Command) → slice_get stand.script.commands (place stand) ≡ Some command → place stand < length stand.script.commands
+command_there stand command at = slice_get_within stand.script.commands (place stand) command at
+
+pub turn_goes : (stand : Stand) → StandsStill stand (turn stand) ⊎ GoesOn stand (turn stand)
+turn_goes stand = turn_cases_shown stand (λ m. StandsStill stand m ⊎ GoesOn stand m)
+    (inl (record { still = refl; none = λ does. does }))
+    (λ _. inl (record { still = refl; none = λ does. does }))
+    (λ may. inr (record { was_there = command_there stand may.command may.at; next = place_more stand None }))
+    (λ refused. inr (record { was_there = command_there stand refused.asked.command refused.asked.at; next = place_more stand (Some (drawn stand)) }))
+    (λ i budget kind may. inr (record { was_there = command_there stand may.asked.command may.asked.at; next = place_more stand (Some (drawn stand)) }))
+    (λ i may. inr (record { was_there = command_there stand may.asked.command may.asked.at; next = place_more stand (Some (drawn stand)) }))
 
 -- ---- an out
 
@@ -186,7 +201,7 @@ received_cases stand i (Reply (Some m) told) P heard settled =
 -- ---- runs
 
 pub script_turn : (stand : Stand) → (turn stand).1.script ≡ stand.script
-script_turn stand = turn_cases stand (λ m. m.1.script ≡ stand.script) refl refl refl (λ i budget kind _. refl) (λ i _. refl)
+script_turn stand = turn_cases stand (λ m. m.1.script ≡ stand.script) refl refl refl refl (λ i budget kind _. refl) (λ i _. refl)
 
 pub script_received : (stand : Stand) (i : ℕ) (out : Out) → (received stand i out).script ≡ stand.script
 script_received stand i out = received_cases stand i out (λ s. s.script ≡ stand.script) (λ _. refl) (λ n outcome _ _. refl)

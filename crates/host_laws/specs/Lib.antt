@@ -4,3 +4,4 @@ pub mod Courses
 pub mod Driving
 pub mod Finished
 pub mod Stays
+pub mod Targets

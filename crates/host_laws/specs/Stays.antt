@@ -10,7 +10,7 @@ use Rattle.isolate_meaning.specs.State.{Isolate}
 use Rattle.isolate_meaning.specs.Does.{Does, HostStop}
 use Rattle.isolate_meaning.specs.Known.{IsKnown}
 use Rattle.host_meaning.specs.declared.moves.Move.{Move}
-use Rattle.host_meaning.specs.declared.moves.Move.TheVariants.{Post, Ask, Own, Blocked}
+use Rattle.host_meaning.specs.declared.moves.Move.TheVariants.{Post, Ask, Own, Blocked, NoTarget}
 use Rattle.host_meaning.specs.Stand.{Stand}
 use Rattle.host_meaning.specs.Machine.{turn, received}
 use Rattle.host_meaning.specs.Course.{Worker, idle}
@@ -32,6 +32,7 @@ PostsNothing i (Post j task) = i ≢ j
 PostsNothing i (Ask j) = Unit {0}
 PostsNothing i Own = Unit {0}
 PostsNothing i Blocked = Unit {0}
+PostsNothing i NoTarget = Unit {0}
 
 -- isolate i, with this limit, stands beside the host before its first command
 abbrev pub BeginsBeside : Type 0

@@ -13,6 +13,7 @@ ghost use Rattle.host_meaning.specs.OneThread.{OneThread};
 ghost use Rattle.host_meaning.specs.Lawful.{IsLawful};
 ghost use Rattle.host_laws.specs.Courses.{AreBeside, NextTasksFit};
 ghost use Rattle.host_laws.specs.Driving.{CellsAre, record_with};
+ghost use Rattle.host_laws.specs.Targets.{CoursesHaveTargets};
 
 /// Whatever the order of posting, carrying out and receiving: each isolate's journal gives it again,
 /// and the host's history has what was posted to it and received from it, nothing of it before its cause.
@@ -23,6 +24,11 @@ pub fn isolates_stand_beside_the_host()
 /// The task that an isolate is to carry out next fits it, at any time.
 pub fn waiting_tasks_fit()
     ensures { (script : HostScript) (scene : Scene) → IsWhole script → Course script scene → NextTasksFit scene }
+{}
+
+/// The host's next move has its target, at any time.
+pub fn courses_have_targets()
+    ensures { (script : HostScript) → IsWhole script → CoursesHaveTargets script }
 {}
 
 /// Where the host and its isolates have come to rest, what is kept is the record of one whole run of the script.

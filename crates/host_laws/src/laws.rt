@@ -1,6 +1,7 @@
 //! What holds of every run of the host machine.
 
 ghost use Rattle.host_laws.specs.Known.{AreServed, PostsKnown};
+ghost use Rattle.host_laws.specs.Targets.{CallsHaveIsolates, CallsHaveTargets, MovesHaveTargets};
 ghost use Rattle.host_laws.specs.Settled.{AccountsForEach, AllAreSettled, PostsDrawn, PostsOnce, SettlesByReplies, SettlesOnce, WaitsForNothing};
 ghost use Rattle.host_meaning.specs.Machine.{HostRun};
 ghost use Rattle.host_meaning.specs.Stand.{Stand};
@@ -28,7 +29,7 @@ pub fn settlements_are_replied()
     ensures { (script : HostScript) (stand : Stand) → HostRun script stand → SettlesByReplies stand.history }
 {}
 
-/// The host waits for nothing but calls: where every call is settled, it can't go on only after its last command.
+/// The host waits for nothing but calls: where every call is settled, it is `Blocked` only after its last command.
 pub fn the_host_waits_for_calls_alone()
     ensures { (script : HostScript) (stand : Stand) → HostRun script stand → AllAreSettled stand → WaitsForNothing stand }
 {}
@@ -37,4 +38,12 @@ pub fn the_host_waits_for_calls_alone()
 /// posted is sound and names nothing but contexts that its own isolate has told.
 pub fn posted_tasks_are_known()
     ensures { (script : HostScript) (stand : Stand) → IsWhole script → HostRun script stand → AreServed script stand.history → PostsKnown stand }
+{}
+
+/// Each call of a script has an isolate, one of the script's. Beside isolates that do what was posted to them, the
+/// context or the row that the next call names is there too, unless its isolate is gone: no move lacks its target.
+pub fn calls_have_targets()
+    ensures isolates { (script : HostScript) → IsWhole script → CallsHaveIsolates script }
+    ensures names { (script : HostScript) → IsWhole script → CallsHaveTargets script }
+    ensures moves { (script : HostScript) → IsWhole script → MovesHaveTargets script }
 {}

@@ -11,13 +11,14 @@ mod hosts;
 mod laws;
 
 pub use courses::{
-    cells_end_lawful, courses_end_lawful, isolates_stand_beside_the_host, one_thread_is_one_order,
-    waiting_tasks_fit,
+    cells_end_lawful, courses_end_lawful, courses_have_targets, isolates_stand_beside_the_host,
+    one_thread_is_one_order, waiting_tasks_fit,
 };
 pub use hosts::{
     finished_records_are_lawful, isolates_stay_beside, moves_name_isolates, outs_may_be_received,
 };
 pub use laws::{
-    calls_are_settled_or_posted, each_call_is_settled_once, numbers_are_posted_once,
-    posted_tasks_are_known, settlements_are_replied, the_host_waits_for_calls_alone,
+    calls_are_settled_or_posted, calls_have_targets, each_call_is_settled_once,
+    numbers_are_posted_once, posted_tasks_are_known, settlements_are_replied,
+    the_host_waits_for_calls_alone,
 };

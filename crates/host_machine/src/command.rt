@@ -1,6 +1,5 @@
 //! What the parts of a command are, and what a settlement holds.
 ghost use Rattle.std.specs.Prelude.{◌≡◌, IfOk};
-ghost use Rattle.std.specs.Option.{option_map_or};
 ghost use Rattle.host_syntax.specs.Whole.{context_of};
 ghost use Rattle.host_meaning.specs.Machine.{isolate_of, context_in, row_in, argument_of, held_by};
 
@@ -10,47 +9,47 @@ use ivm_text::{CloneWhole, Passed};
 use std::alloc::{AllocError, Global};
 use task_history::Outcome;
 
-/// The isolate in which a command makes a context.
-pub fn isolate_of(script: &HostScript, command: u32) -> u32
+/// The isolate in which a command makes a context; none where there is no such command, or it makes none.
+pub fn isolate_of(script: &HostScript, command: u32) -> Option<u32>
     ensures { result ≡ isolate_of script.now command }
 {
     match script.commands.get(command) {
         Some(command) => isolate_named(&command.what),
-        None => 0,
+        None => None,
     }
 }
 
-fn isolate_named(what: &What) -> u32
-    ensures { result ≡ option_map_or (λ isolate. isolate) (context_of what.now) 0 }
+fn isolate_named(what: &What) -> Option<u32>
+    ensures { result ≡ context_of what.now }
 {
     match what {
-        What::Context { isolate } => *isolate,
+        What::Context { isolate } => Some(*isolate),
         What::Declare
         | What::Eval { .. }
         | What::Get { .. }
         | What::Set { .. }
         | What::Dispose { .. }
-        | What::Wait(_) => 0,
+        | What::Wait(_) => None,
     }
 }
 
-/// The context that a settlement holds.
-pub fn context_in(held: Option<Held>) -> u32
+/// The context that a settlement holds, if it holds one.
+pub fn context_in(held: Option<Held>) -> Option<u32>
     ensures { result ≡ context_in held }
 {
     match held {
-        Some(Held::Context { context, .. }) => context,
-        Some(Held::Nothing) | None => 0,
+        Some(Held::Context { context, .. }) => Some(context),
+        Some(Held::Nothing) | None => None,
     }
 }
 
-/// The row of the global object of the context that a settlement holds.
-pub fn row_in(held: Option<Held>) -> u32
+/// The row of the global object of the context that a settlement holds, if it holds one.
+pub fn row_in(held: Option<Held>) -> Option<u32>
     ensures { result ≡ row_in held }
 {
     match held {
-        Some(Held::Context { row, .. }) => row,
-        Some(Held::Nothing) | None => 0,
+        Some(Held::Context { row, .. }) => Some(row),
+        Some(Held::Nothing) | None => None,
     }
 }
 

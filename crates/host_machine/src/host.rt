@@ -2,8 +2,8 @@
 ghost use Rattle.std.specs.Prelude.{◌≡◌, ◌<◌, [], ◌∷◌, ◌++◌, length, None, Some, IfOk, OnOk, OnErr};
 ghost use Rattle.host_syntax.specs.Whole.{IsWhole};
 ghost use Rattle.host_meaning.specs.Stand.{beginning, held_at, is_label_settled};
-ghost use Rattle.host_meaning.specs.Machine.{MayReceive, asking, drawing, hearing, is_blocked, is_finished, passing, posting, received, refusing, request, row_in, task_of, turn};
-ghost use Rattle.host_machine.specs.Asked.{isolate_asked, task_asked};
+ghost use Rattle.host_meaning.specs.Machine.{MayReceive, asking, drawing, hearing, is_blocked, is_finished, passing, posting, received, refusing, request, task_of, turn};
+ghost use Rattle.host_machine.specs.Asked.{AsksWithin, is_stop, isolate_asked, task_asked};
 ghost use Rattle.host_machine.specs.Next.{IsWithinNext, by_what, done};
 ghost use Rattle.host_machine.specs.Ledger.{IsWithin};
 ghost use Rattle.host_machine.specs.Replied.{answer_in, replied};
@@ -39,6 +39,8 @@ enum Next {
     Post { isolate: u32, task: Task },
     /// The isolate is to stop.
     Ask { isolate: u32 },
+    /// The context or the row that its call names isn't there.
+    NoTarget,
 }
 
 /// The host machine: where it stands in its script, and what it has noted.
@@ -110,7 +112,8 @@ impl Host {
     // ---- the next command
 
     /// Does the next command and tells what is to be done for it: a task to be handed to its isolate, an
-    /// isolate to be stopped, or nothing; `Blocked` where no command is left or the next one waits.
+    /// isolate to be stopped, or nothing; `Blocked` where no command is left or the next one waits. Beside isolates
+    /// that do what was posted to them it is never `NoTarget`: `host_laws::calls_have_targets`.
     /// It is refused for want of memory alone, and then leaves all as it was.
     pub fn step(&mut self) -> Result<Move, NoMemory>
         ensures ok { IfOk result (λ step. (step, self.new) ≡ turn self.old) }
@@ -122,6 +125,7 @@ impl Host {
             Next::Refuse => self.refuse(),
             Next::Post { isolate, task } => self.post(isolate, task),
             Next::Ask { isolate } => self.ask(isolate),
+            Next::NoTarget => Ok(Move::NoTarget),
         }
     }
 
@@ -136,7 +140,7 @@ impl Host {
     }
 
     fn next_of(&self, what: &What) -> Result<Next, AllocError>
-        requires { IsWithin (length self.now.script.isolates) (isolate_asked (request self.now what.now)) }
+        requires { AsksWithin (length self.now.script.isolates) (request self.now what.now) }
         ensures value { IfOk result (λ next. done self.now next ≡ by_what self.now what.now) }
         ensures within { IfOk result (IsWithinNext (length self.now.script.isolates)) }
     {
@@ -154,9 +158,12 @@ impl Host {
         if self.ledger.is_gone(isolate) {
             return Ok(Next::Refuse);
         }
+        if self.is_stop(what) {
+            return Ok(Next::Ask { isolate });
+        }
         match self.task_asked(what)? {
             Some(task) => Ok(Next::Post { isolate, task }),
-            None => Ok(Next::Ask { isolate }),
+            None => Ok(Next::NoTarget),
         }
     }
 
@@ -201,14 +208,29 @@ impl Host {
         match what {
             What::Declare | What::Wait(_) => None,
             What::Context { isolate } | What::Dispose { isolate } => Some(*isolate),
-            What::Eval { context, .. } => Some(isolate_of(&self.script, *context)),
+            What::Eval { context, .. } => isolate_of(&self.script, *context),
             What::Get { target, .. } | What::Set { target, .. } => {
-                Some(isolate_of(&self.script, *target))
+                isolate_of(&self.script, *target)
             }
         }
     }
 
-    /// The task that a call asks for; one that asks for a stop has none.
+    /// An isolate is asked to stop.
+    fn is_stop(&self, what: &What) -> bool
+        ensures { result ≡ is_stop (request self.now what.now) }
+    {
+        match what {
+            What::Dispose { .. } => true,
+            What::Declare
+            | What::Context { .. }
+            | What::Eval { .. }
+            | What::Get { .. }
+            | What::Set { .. }
+            | What::Wait(_) => false,
+        }
+    }
+
+    /// The task that a call asks for; one that asks for a stop has none, nor one whose context or row isn't there.
     fn task_asked(&self, what: &What) -> Result<Option<Task>, AllocError>
         ensures { IfOk result (λ task. task ≡ task_asked self.now (request self.now what.now)) }
     {
@@ -221,21 +243,30 @@ impl Host {
                 want,
                 text,
             } => {
+                let Some(context) = context_in(self.held_at(*context)) else {
+                    return Ok(None);
+                };
                 let kind = TaskKind::Eval {
-                    context: context_in(self.held_at(*context)),
+                    context,
                     text: Shared::new(self.alloc, text.clone_whole(self.alloc)?)?,
                     want: *want,
                 };
                 Ok(Some(self.task(*budget, kind)))
             }
             What::Get { target, key, want } => {
+                let Some(row) = row_in(self.held_at(*target)) else {
+                    return Ok(None);
+                };
                 let act = Act::Get(key.clone_whole(self.alloc)?, *want);
-                Ok(Some(self.act_on(*target, act)))
+                Ok(Some(self.act_on(row, act)))
             }
             What::Set { target, key, value } => {
+                let Some(row) = row_in(self.held_at(*target)) else {
+                    return Ok(None);
+                };
                 let key = key.clone_whole(self.alloc)?;
                 let act = Act::Set(key, argument_of(value, self.alloc)?);
-                Ok(Some(self.act_on(*target, act)))
+                Ok(Some(self.act_on(row, act)))
             }
         }
     }
@@ -251,10 +282,9 @@ impl Host {
         }
     }
 
-    fn act_on(&self, target: u32, act: Act) -> Task
-        ensures { result ≡ task_of self.now 1000000 (TaskKind.Act (row_in (held_at self.now target)) act) }
+    fn act_on(&self, row: u32, act: Act) -> Task
+        ensures { result ≡ task_of self.now 1000000 (TaskKind.Act row act) }
     {
-        let row = row_in(self.held_at(target));
         self.task(DEFAULT_BUDGET, TaskKind::Act { row, act })
     }
 

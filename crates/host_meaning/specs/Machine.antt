@@ -1,10 +1,12 @@
 -- The host machine: one command of the script after another, and between them any out of any isolate.
 -- This project's own; docs/HOST.md, "What the host does".
-use Rattle.std.specs.Prelude.{◌≡◌, ◌≢◌, ℕ, suc, zero, ◌<◌, List, [], ◌∷◌, ◌++◌, length, Bool, true, false, not, ◌&&◌, ◌==◌, ◌||◌, nat_le, if◌then◌else◌, Option, None, Some, slice_get, slice_set}
-use Rattle.std.specs.Option.{option_map_or}
+use Rattle.std.specs.Prelude.{◌≡◌, ℕ, suc, zero, ◌<◌, List, [], ◌∷◌, ◌++◌, length, Bool, true, false, not, ◌&&◌, ◌==◌, ◌||◌, nat_le, if◌then◌else◌, Option, None, Some, slice_get, slice_set}
+use Rattle.std.specs.Option.{option_and_then, option_map, option_map_or}
 use Rattle.ivm_text.specs.declared.copies.Passed.{Passed}
 use Rattle.ivm_text.specs.declared.copies.Passed.TheVariants.{Copy as PassedCopy}
+use Rattle.ivm_text.specs.declared.copies.Want.{Want}
 use Rattle.task_history.specs.Lists.{is_gone, posts, receives, replies, is_asked, has_ended}
+use Rattle.task_history.specs.declared.task.Act.{Act}
 use Rattle.task_history.specs.declared.task.Act.TheVariants as act
 use Rattle.task_history.specs.declared.task.Own.TheVariants.{Disposed}
 use Rattle.task_history.specs.declared.task.Task.{Task}
@@ -45,20 +47,21 @@ is_blocked stand (what.Wait (Some target)) = not (is_label_settled stand target)
 
 -- ---- the target of a call
 
--- the isolate in which command k makes a context
-abbrev pub isolate_of : HostScript → ℕ → ℕ
-isolate_of script k = option_map_or (λ (command : Command). option_map_or (λ isolate. isolate) (context_of command.what) 0) (slice_get script.commands k) 0
+-- the isolate in which command k makes a context; none where there is no such command, or it makes none
+abbrev pub isolate_of : HostScript → ℕ → Option ℕ
+isolate_of script k = option_and_then (λ (command : Command). context_of command.what) (slice_get script.commands k)
 
--- the context that a settlement holds, and the row of its global object; 0 where it holds none, which a run beside isolates never meets
-abbrev pub context_in : Option Held → ℕ
-context_in None = 0
-context_in (Some held.Nothing) = 0
-context_in (Some (held.Context context row)) = context
+-- the context that a settlement holds, if it holds one
+abbrev pub context_in : Option Held → Option ℕ
+context_in None = None
+context_in (Some held.Nothing) = None
+context_in (Some (held.Context context row)) = Some context
 
-abbrev pub row_in : Option Held → ℕ
-row_in None = 0
-row_in (Some held.Nothing) = 0
-row_in (Some (held.Context context row)) = row
+-- the row of the global object of the context that a settlement holds, if it holds one
+abbrev pub row_in : Option Held → Option ℕ
+row_in None = None
+row_in (Some held.Nothing) = None
+row_in (Some (held.Context context row)) = Some row
 
 abbrev pub argument_of : HostArgument → Passed
 argument_of (Literal copy) = PassedCopy copy
@@ -67,8 +70,8 @@ argument_of (Literal copy) = PassedCopy copy
 pub data Request : Type 0 where
   -- it is no call
   asks_nothing : Request
-  -- to carry out a task of this kind, within so many ticks
-  asks_task : ℕ → ℕ → TaskKind → Request
+  -- to carry out a task of this kind, within so many ticks; no isolate or no kind where what it names isn't there
+  asks_task : Option ℕ → ℕ → Option TaskKind → Request
   -- to stop
   asks_stop : ℕ → Request
 
@@ -76,12 +79,23 @@ pub data Request : Type 0 where
 abbrev pub default_budget : ℕ
 default_budget = 1000000
 
+-- the text is to be run in the context that a settlement holds
+abbrev pub eval_in : Option Held → List ℕ → Want → Option TaskKind
+eval_in settled text want = option_map (λ context. kind.Eval context text want) (context_in settled)
+
+-- this is to be done with the row that a settlement holds
+abbrev pub act_on : Option Held → Act → Option TaskKind
+act_on settled wanted = option_map (λ row. kind.Act row wanted) (row_in settled)
+
 abbrev pub request : Stand → What → Request
 request stand what.Declare = asks_nothing
-request stand (what.Context isolate) = asks_task isolate default_budget kind.Context
-request stand (what.Eval context budget want text) = asks_task (isolate_of stand.script context) budget (kind.Eval (context_in (held_at stand context)) text want)
-request stand (what.Get target key want) = asks_task (isolate_of stand.script target) default_budget (kind.Act (row_in (held_at stand target)) (act.Get key want))
-request stand (what.Set target key value) = asks_task (isolate_of stand.script target) default_budget (kind.Act (row_in (held_at stand target)) (act.Set key (argument_of value)))
+request stand (what.Context isolate) = asks_task (Some isolate) default_budget (Some kind.Context)
+request stand (what.Eval context budget want text) =
+    asks_task (isolate_of stand.script context) budget (eval_in (held_at stand context) text want)
+request stand (what.Get target key want) =
+    asks_task (isolate_of stand.script target) default_budget (act_on (held_at stand target) (act.Get key want))
+request stand (what.Set target key value) =
+    asks_task (isolate_of stand.script target) default_budget (act_on (held_at stand target) (act.Set key (argument_of value)))
 request stand (what.Dispose isolate) = asks_stop isolate
 request stand (what.Wait target) = asks_nothing
 
@@ -120,12 +134,18 @@ asking stand isolate = drawing stand (Some held.Nothing) (drawn stand ∷ []) (A
 abbrev pub most_calls : ℕ
 most_calls = 100000
 
--- a call: refused where its isolate was asked to stop or has told its end
+-- the task of a call is posted; where the context or the row that it names isn't there, nothing is done
+abbrev pub tasking : Stand → ℕ → ℕ → Option TaskKind → Move × Stand
+tasking stand isolate budget None = (move.NoTarget, stand)
+tasking stand isolate budget (Some kind) =
+    (move.Post isolate (task_of stand budget kind), posting stand isolate (task_of stand budget kind))
+
+-- a call: refused where its isolate was asked to stop or has told its end; where its isolate isn't there, nothing is done
 abbrev pub calling : Stand → Request → Move × Stand
 calling stand asks_nothing = (move.Own, passing stand)
-calling stand (asks_task isolate budget kind) =
-    if is_gone isolate stand.history then (move.Own, refusing stand)
-    else (move.Post isolate (task_of stand budget kind), posting stand isolate (task_of stand budget kind))
+calling stand (asks_task None budget kind) = (move.NoTarget, stand)
+calling stand (asks_task (Some isolate) budget kind) =
+    if is_gone isolate stand.history then (move.Own, refusing stand) else tasking stand isolate budget kind
 calling stand (asks_stop isolate) =
     if is_gone isolate stand.history then (move.Own, refusing stand) else (move.Ask isolate, asking stand isolate)
 
@@ -204,9 +224,17 @@ IsReply (Reply call outcome) = Unit {0}
 abbrev pub MayReceive : HostScript → ℕ → Out → Type 0
 MayReceive script i out = (i < length script.isolates) × IsReply out
 
+-- a lawful move: it does a command
+abbrev pub DoesCommand : Move → Type 0
+DoesCommand (move.Post isolate task) = Unit {0}
+DoesCommand (move.Ask isolate) = Unit {0}
+DoesCommand move.Own = Unit {0}
+DoesCommand move.Blocked = ⊥
+DoesCommand move.NoTarget = ⊥
+
 -- one step: the next command, or any out of any isolate
 pub data HostStep (stand next : Stand) : Type 0 where
-  turns : (turn stand).0 ≢ move.Blocked → next ≡ (turn stand).1 → HostStep stand next
+  turns : DoesCommand (turn stand).0 → next ≡ (turn stand).1 → HostStep stand next
   receives_one : (i : ℕ) (out : Out) → MayReceive stand.script i out → next ≡ received stand i out → HostStep stand next
 
 -- what steps lead to

@@ -13,6 +13,9 @@ pub enum Move {
     Own,
     /// No command is left, or the next one waits for a call that isn't settled.
     Blocked,
+    /// The next command is a call whose isolate, context or row isn't there, and nothing was done. This is no lawful
+    /// move: beside isolates that do what was posted to them no run comes to it.
+    NoTarget,
 }
 
 /// A task that follows from an out, to be handed to an isolate.

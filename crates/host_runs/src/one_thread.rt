@@ -25,6 +25,8 @@ pub fn carry_out(alloc: Global, script: HostScript) -> Result<(HostScript, Recor
     'commands: loop {
         match host.step()? {
             Move::Blocked => break,
+            // Beside isolates that do what was posted to them, each call has its target.
+            Move::NoTarget => unreachable!(),
             Move::Own => {}
             Move::Post { isolate, task } => {
                 perform(

@@ -159,13 +159,14 @@ fn told_at(alloc: Global, history: &History, place: u32) -> Result<String, Error
 
 // ---- moves, tasks and outs
 
-/// `post 0: call 1 context in 1000000`, `ask 0`, `own` or `blocked`.
+/// `post 0: call 1 context in 1000000`, `ask 0`, `own`, `blocked` or `no target`.
 fn told_of_move(alloc: Global, told: &Move) -> Result<String, Error> {
     match told {
         Move::Post { isolate, task } => told_of_post(alloc, *isolate, task),
         Move::Ask { isolate } => Ok(format!(in alloc; "ask {isolate}")?),
         Move::Own => Ok(String::from_str(alloc, "own")?),
         Move::Blocked => Ok(String::from_str(alloc, "blocked")?),
+        Move::NoTarget => Ok(String::from_str(alloc, "no target")?),
     }
 }
 

@@ -1,26 +1,32 @@
-use Rattle.std.proofs.Common.{◌≡◌, ◌≢◌, ℕ, [], length, refl, ap, ◌∙◌, arith}
+use Rattle.std.proofs.Common.{◌≡◌, ℕ, [], length, refl, ap, subst, sym, ◌∙◌, arith}
 use Rattle.task_history.specs.declared.task.Task.{Task}
 use Rattle.host_meaning.specs.declared.moves.Move.{Move}
-use Rattle.host_meaning.specs.declared.moves.Move.TheVariants.{Own, Post, Ask, Blocked}
-use Rattle.host_meaning.specs.Stand.{beginning}
+use Rattle.host_meaning.specs.declared.moves.Move.TheVariants.{Own, Post, Ask}
+use Rattle.host_meaning.specs.Machine.{DoesCommand}
 use Rattle.host_laws.specs.Driving.{fresh_cells, outs_at}
-use Rattle.host_laws.proofs.Driven.{begin_cells, cell_there, post_index, ask_index, within_next, post_fits, after_own, after_post, after_ask, fewer_commands, ends_lawful, ends_with_script}
+use Rattle.host_laws.proofs.Driven.{begin_cells, cell_there, post_index, ask_index, within_next, post_fits, after_own, after_post, after_ask, fewer_commands, has_target, ends_lawful, ends_with_script}
 use Rattle.host_runs.proofs.one_thread.carry_out.Goals as goal
 
-posts_on : (m : Move) (i : ℕ) (task : Task) → m ≡ Post i task → m ≢ Blocked
-posts_on m i task is blocked = cc
+posts_on : (m : Move) (i : ℕ) (task : Task) → m ≡ Post i task → DoesCommand m
+posts_on m i task is = subst DoesCommand (sym is) tt
 
-own_on : (m : Move) → m ≡ Own → m ≢ Blocked
-own_on m is blocked = cc
+own_on : (m : Move) → m ≡ Own → DoesCommand m
+own_on m is = subst DoesCommand (sym is) tt
 
-asks_on : (m : Move) (i : ℕ) → m ≡ Ask i → m ≢ Blocked
-asks_on m i is blocked = cc
+asks_on : (m : Move) (i : ℕ) → m ≡ Ask i → DoesCommand m
+asks_on m i is = subst DoesCommand (sym is) tt
 
 -- ---- the beginning
 
 pub commands-init : goal.commands-init
 commands-init c =
     begin_cells c.args.script c.in_ok-host.host c.in_ok-cells.cells.items c.in_ok-host.ensures (c.in_ok-cells.ensures ∙ ap (fresh_cells 0) c.as_slice.ensures.items)
+
+-- ---- no call is without its target
+
+pub unreachable-requires : goal.unreachable-requires
+unreachable-requires c =
+    has_target c.args.script c.commands.host c.commands.cells.items c.requires c.commands.invariant c.step.new.self c.in_ok-step.field-0 c.in_ok-step.ensures.ok c.in-NoTarget.is
 
 -- ---- the host's own move
 
