@@ -1,6 +1,12 @@
 pub mod Words
 pub mod TableLemmas
 pub mod Built
+pub mod Below
+pub mod MarkLemmas
+pub mod ReachedLemmas
+pub mod NodeLemmas
+pub mod Pruned
+pub mod Whole
 pub mod TreeOf
 pub mod Refused
 pub mod Works

@@ -6,7 +6,8 @@ use Rattle.std.proofs.Math.Seq.{get_or-append_seam}
 use Rattle.js_syntax.specs.declared.node.Node.{Node}
 use Rattle.js_syntax.specs.Tree.{Trees, nothing, tree, AreTrees, no_trees, some_trees, IsTreeOf}
 use Rattle.js_syntax.specs.Tree as syntax
-use Rattle.js_syntax.specs.Shape.{AreBelow, AreSoundFrom, AreSound}
+use Rattle.js_syntax.specs.Shape.{AreBelow}
+use Rattle.js_parser.specs.Below.{AreBelowFrom}
 use Rattle.js_parser.specs.View.{Root, none_there, root_at, root_of, trees_then, grown}
 use Rattle.js_parser.specs.View.{tree_of}
 
@@ -81,14 +82,14 @@ holds_one_more made front m h b = record {
         ∙ ap (λ (i : ℕ). record { head = syntax.head_of i m; kids = trees_then made m.kids nothing }) (sym k)
         ∙ ap (λ (t : Trees). record { head = syntax.head_of n m; kids = t }) (sym (trees_same made (root_of made m ∷ []) m.kids (subst (λ (i : ℕ). AreBelow m.kids i) (sym h.long) b)))
 
-holds_more : (made : List Root) (front ns : List Node) → Holds made front → AreSoundFrom (length front) ns → Holds (grown made ns) (front ++ ns)
+holds_more : (made : List Root) (front ns : List Node) → Holds made front → AreBelowFrom (length front) ns → Holds (grown made ns) (front ++ ns)
 unfolding grown
 holds_more made front [] h s = subst (λ (l : List Node). Holds made l) (sym (append-nil front)) h
 holds_more made front (n ∷ ns) h s =
     subst (λ (l : List Node). Holds (grown (made ++ root_of made n ∷ []) ns) l) (append_assoc front (n ∷ []) ns)
-    (holds_more (made ++ root_of made n ∷ []) (front ++ n ∷ []) ns (holds_one_more made front n h s.0) (subst (λ (k : ℕ). AreSoundFrom k ns) (sym (length-append front (n ∷ []))) s.2))
+    (holds_more (made ++ root_of made n ∷ []) (front ++ n ∷ []) ns (holds_one_more made front n h s.0) (subst (λ (k : ℕ). AreBelowFrom k ns) (sym (length-append front (n ∷ []))) s.1))
 
-pub all_hold : (nodes : List Node) → AreSound nodes → Holds (grown [] nodes) nodes
+pub all_hold : (nodes : List Node) → AreBelowFrom 0 nodes → Holds (grown [] nodes) nodes
 all_hold nodes s = holds_more [] [] nodes (record { long = refl; below = λ n x e. absurd (let none : ⊥ = cc in none); is = λ n x e. absurd (let none : ⊥ = cc in none) }) s
 
 -- the node of a number that is there
@@ -114,6 +115,6 @@ only_below n k h = λ i m e. of i m e
     of zero m e = let s : n ≡ m = cc in subst (λ (x : ℕ). x < k) s h
     of (suc i) m e = absurd (let none : ⊥ = cc in none)
 
-pub its_tree : (nodes : List Node) → AreSound nodes → 0 < length nodes → IsTreeOf nodes (tree_of nodes)
+pub its_tree : (nodes : List Node) → AreBelowFrom 0 nodes → 0 < length nodes → IsTreeOf nodes (tree_of nodes)
 its_tree nodes s h =
     (length nodes - 1, omega arith, trees_under (length nodes) nodes ((length nodes - 1) ∷ []) (all_hold nodes s) (only_below (length nodes - 1) (length nodes) (omega arith)) (omega arith))

@@ -112,7 +112,7 @@ kids_below n (p ∷ ps) h (suc k) m e =
 
 -- ---- what the node of a part has
 
-prefix_kept : (made : List Root) (ns : List Node) (j : ℕ) → j < length made → root_at (grown made ns) j ≡ root_at made j
+pub prefix_kept : (made : List Root) (ns : List Node) (j : ℕ) → j < length made → root_at (grown made ns) j ≡ root_at made j
 unfolding grown
 prefix_kept made [] j h = refl
 prefix_kept made (n ∷ ns) j h =

@@ -2,7 +2,8 @@
 -- This project's own; docs/SCRIPTS.md, "How the grammar is written".
 use Rattle.std.specs.Prelude.{◌≡◌, ℕ, List, length, ◌⊎◌}
 use Rattle.ivm_text.specs.declared.refusal.Refusal.{Refusal}
-use Rattle.js_syntax.specs.Tree.{Trees}
+use Rattle.js_syntax.specs.Tree.{Trees, nothing, tree}
+use Rattle.grammar_laws.specs.Formed.{AreFormed}
 use Rattle.js_lexer.specs.declared.token.Token.{Token}
 use Rattle.js_lexer.specs.declared.token.SyntaxFault.{SyntaxFault}
 use Rattle.js_lexer.specs.declared.token.SyntaxFault.TheVariants as faults
@@ -41,3 +42,20 @@ pub record IsRejectedText (whole : Rule) (bytes : List ℕ) (r : Refusal) : Type
 abbrev pub IsFaultBy : Rule → List ℕ → SyntaxFault → Type 0
 IsFaultBy whole bytes (faults.Refused r) = IsRefusal bytes r ⊎ IsRejectedText whole bytes r
 IsFaultBy whole bytes faults.NoMemory = Unit {0}
+
+-- ---- what is accepted is whole
+
+-- there is a first tree
+abbrev pub HasRoot : Trees → Type 0
+HasRoot nothing = ⊥
+HasRoot (tree head kids rest) = Unit {0}
+
+-- it is a tree, each of whose forms has what its kind asks for
+pub record IsWholeTree (t : Trees) : Type 0 where
+  pub root : HasRoot t
+  pub formed : AreFormed t
+
+-- what the rules for the whole of a text accept are such trees
+abbrev pub AcceptsWholeTrees : Type 0
+AcceptsWholeTrees = (whole : Whole) (end : ℕ) (ts : List Token) (t : Trees)
+    → answer_by (rule_for whole) end ts ≡ accepted t → IsWholeTree t

@@ -1,7 +1,9 @@
 pub mod Tables
+pub mod Below
+pub mod Marks
+pub mod Nodes
 pub mod View
 pub mod Changes
-pub mod Wanted
 pub mod State
 pub mod Nests
 pub mod Accepted

@@ -7,11 +7,11 @@ ghost use Rattle.parser_rules.specs.Work.{is_name, is_number, with_place};
 ghost use Rattle.js_parser.specs.View.{known, all_known};
 
 use crate::draft::{Draft, Piece};
-use crate::shape::is_formed;
+use crate::nodes::Nodes;
 use crate::stacks::{put_draft, put_piece, take_draft, take_piece};
 use ivm_text::{CloneWhole, Items, NoMemory, Units};
 use js_lexer::{Token, TokenKind};
-use js_syntax::{Kids, Kind, Node, Script};
+use js_syntax::{Kids, Kind, Node};
 use parser_rules::Cover;
 use std::alloc::Global;
 use std::mem;
@@ -21,13 +21,13 @@ use std::mem;
 pub(crate) struct Builder {
     pub alloc: Global,
     /// The nodes that were made.
-    pub script: Script,
+    pub nodes: Nodes,
     /// The innermost open form.
     pub top: Draft,
     /// The forms around it, the outermost first.
     pub below: Items<Draft>,
-    ghost top_known: { known (length script) top.pieces ≡ true },
-    ghost below_known: { all_known (length script) below ≡ true },
+    ghost top_known: { known (length nodes) top.pieces ≡ true },
+    ghost below_known: { all_known (length nodes) below ≡ true },
 }
 
 impl Builder {
@@ -42,7 +42,7 @@ impl Builder {
     /// A form of a kind begins at this place.
     pub fn open(&mut self, kind: Kind, place: u32) -> Result<(), NoMemory>
         ensures work { IfOk result (λ _. Changes (opened_at kind place) self.old self.new) }
-        ensures script { self.new.script ≡ self.old.script }
+        ensures nodes { self.new.nodes ≡ self.old.nodes }
     {
         let inner = Draft::new(self.alloc, kind, place);
         let outer = mem::replace(&mut self.top, inner);
@@ -51,8 +51,8 @@ impl Builder {
 
     /// A form is the last part of the innermost open one.
     fn push(&mut self, piece: Piece) -> Result<(), NoMemory>
-        requires { piece.node < length self.old.script }
-        ensures { IfOk result (λ _. Changes (pushed (part_at (grown [] self.old.script) piece)) self.old self.new) }
+        requires { piece.node < length self.old.nodes }
+        ensures { IfOk result (λ _. Changes (pushed (part_at (grown [] self.old.nodes) piece)) self.old self.new) }
     {
         put_piece(&mut self.top.pieces, piece)
     }
@@ -85,15 +85,12 @@ impl Builder {
 
     /// Makes a node of a form, and a part of the innermost open one.
     fn add(&mut self, draft: Draft) -> Result<(), NoMemory>
-        requires { known (length self.old.script) draft.pieces ≡ true }
-        ensures { IfOk result (λ _. Changes (added (frame_of (grown [] self.old.script) draft)) self.old self.new) }
+        requires { known (length self.old.nodes) draft.pieces ≡ true }
+        ensures { IfOk result (λ _. Changes (added (frame_of (grown [] self.old.nodes) draft)) self.old self.new) }
     {
         let start = draft.place;
         let node = node_of(self.alloc, draft)?;
-        if !is_formed(&node) {
-            return Err(NoMemory);
-        }
-        let number = self.script.add(node)?;
+        let number = self.nodes.add(node)?;
         put_piece(
             &mut self.top.pieces,
             Piece {
@@ -115,8 +112,8 @@ impl Builder {
 
     /// The last part and this one, which stood behind it, are one node.
     fn pair_with(&mut self, kind: Kind, second: Piece) -> Result<(), NoMemory>
-        requires { second.node < length self.old.script }
-        ensures { IfOk result (λ _. (w : Work) (rest : List Token) → w.top.parts ≡ part_at (grown [] self.old.script) second ∷ (work_in rest self.old).top.parts → work_in rest self.old ≡ record w { top = record (w.top) { parts = (work_in rest self.old).top.parts } } → work_in rest self.new ≡ paired kind w) }
+        requires { second.node < length self.old.nodes }
+        ensures { IfOk result (λ _. (w : Work) (rest : List Token) → w.top.parts ≡ part_at (grown [] self.old.nodes) second ∷ (work_in rest self.old).top.parts → work_in rest self.old ≡ record w { top = record (w.top) { parts = (work_in rest self.old).top.parts } } → work_in rest self.new ≡ paired kind w) }
     {
         match take_piece(&mut self.top.pieces) {
             Some(first) => {
@@ -140,8 +137,8 @@ impl Builder {
 
     /// This part, which was the last one, belongs to the form around the innermost one.
     fn unwrap_part(&mut self, piece: Piece) -> Result<(), NoMemory>
-        requires { piece.node < length self.old.script }
-        ensures { IfOk result (λ _. (w : Work) (rest : List Token) → w.top.parts ≡ part_at (grown [] self.old.script) piece ∷ (work_in rest self.old).top.parts → work_in rest self.old ≡ record w { top = record (w.top) { parts = (work_in rest self.old).top.parts } } → work_in rest self.new ≡ unwrapped w) }
+        requires { piece.node < length self.old.nodes }
+        ensures { IfOk result (λ _. (w : Work) (rest : List Token) → w.top.parts ≡ part_at (grown [] self.old.nodes) piece ∷ (work_in rest self.old).top.parts → work_in rest self.old ≡ record w { top = record (w.top) { parts = (work_in rest self.old).top.parts } } → work_in rest self.new ≡ unwrapped w) }
     {
         match take_draft(&mut self.below) {
             Some(outer) => {
@@ -287,7 +284,7 @@ impl Builder {
 
     /// The last part of the innermost form.
     pub fn last_piece(&self) -> Option<Piece>
-        ensures known { IfSome result (λ piece. piece.node < length self.now.script) }
+        ensures known { IfSome result (λ piece. piece.node < length self.now.nodes) }
         ensures last { MatchOption result (self.now.top.pieces ≡ []) (λ piece. (front : List Piece) × (self.now.top.pieces ≡ front ++ piece ∷ [])) }
     {
         self.top.pieces.as_slice().last().copied()
@@ -295,10 +292,10 @@ impl Builder {
 
     /// The name that a part is, where nothing is around it.
     fn bare_name(&self, piece: Piece) -> Result<Option<(Units, u32)>, NoMemory>
-        requires { piece.node < length self.now.script }
-        ensures { IfOk result (λ name. name ≡ bare_name (part_at (grown [] self.now.script) piece)) }
+        requires { piece.node < length self.now.nodes }
+        ensures { IfOk result (λ name. name ≡ bare_name (part_at (grown [] self.now.nodes) piece)) }
     {
-        let node = self.script.node(piece.node);
+        let node = self.nodes.node(piece.node);
         if is_bare(node.kind, piece.start, node.place) {
             named_at(self.alloc, &node.name, node.place)
         } else {

@@ -3,18 +3,22 @@
 ghost use Rattle.std.specs.Prelude.{◌≡◌, ◌<◌, ◌^◌, List, length, IfOk, IfErr};
 ghost use Rattle.js_syntax.specs.Tree.{IsTreeOf};
 ghost use Rattle.js_lexer.specs.declared.token.Token.{Token};
-ghost use Rattle.parser_rules.specs.Grammar.{within, at_start, answer_by, accepted, limit, tree_of_parts};
+ghost use Rattle.parser_rules.specs.Grammar.{within, at_start, answer_by, accepted, limit};
 ghost use Rattle.js_parser.specs.State.{state_of, Runs};
-ghost use Rattle.js_parser.specs.Accepted.{IsAccepted, IsFaultBy, IsRejected, rule_for};
+ghost use Rattle.js_parser.specs.Accepted.{IsAccepted, IsFaultBy, IsRejected, IsWholeTree, rule_for};
 ghost use Rattle.js_parser.specs.View.{tree_of};
 ghost use Rattle.js_parser.specs.Parsed.{IsScriptOf, IsLiteralOf, AreArgumentsOf, IsFault, IsLiteralFault, IsArgumentsFault};
-ghost use Rattle.js_parser.specs.Changes.{work_in};
+ghost use Rattle.js_parser.specs.Changes.{last_tree};
+ghost use Rattle.js_parser.specs.Nodes.{AreOfTheirTree};
 
 use crate::builder::Builder;
 use crate::classes::class_of;
 use crate::draft::Draft;
 use crate::grammar::Grammar;
+use crate::laws::accepted_trees_are_whole;
 use crate::limit::{refusal, stop_beyond};
+use crate::nodes::Nodes;
+use crate::prune::prune;
 use crate::reader::Reader;
 use ivm_text::{Items, NoMemory};
 use js_lexer::{SyntaxFault, Token, lex};
@@ -34,7 +38,8 @@ enum Whole {
     Arguments,
 }
 
-/// The script of a text of fewer than 2^32 bytes.
+/// The script of a text of fewer than 2^32 bytes: the nodes of the text's one tree, each under its
+/// number, and no others.
 ///
 /// The text is refused as `lex` refuses it, and else exactly where the grammar of scripts has no
 /// tree for its tokens: at the byte of the first bad token, or at the number of bytes where no
@@ -45,6 +50,7 @@ pub fn parse(alloc: Global, text: &[u8]) -> Result<Script, SyntaxFault>
     requires { length text.now < 2 ^ 32 }
 
     ensures ok { IfOk result (IsScriptOf text.now) }
+    ensures nodes { IfOk result AreOfTheirTree }
     ensures err { IfErr result (IsFault text.now) }
 {
     parse_whole(alloc, text, Whole::Script)
@@ -59,6 +65,7 @@ pub fn parse_literal(alloc: Global, text: &[u8]) -> Result<Script, SyntaxFault>
 
     ensures ok { IfOk result (IsLiteralOf text.now) }
     ensures tree { IfOk result (λ nodes. IsTreeOf nodes (tree_of nodes)) }
+    ensures nodes { IfOk result AreOfTheirTree }
     ensures err { IfErr result (IsLiteralFault text.now) }
 {
     parse_whole(alloc, text, Whole::Literal)
@@ -73,6 +80,7 @@ pub fn parse_arguments(alloc: Global, text: &[u8]) -> Result<Script, SyntaxFault
 
     ensures ok { IfOk result (AreArgumentsOf text.now) }
     ensures tree { IfOk result (λ nodes. IsTreeOf nodes (tree_of nodes)) }
+    ensures nodes { IfOk result AreOfTheirTree }
     ensures err { IfErr result (IsArgumentsFault text.now) }
 {
     parse_whole(alloc, text, Whole::Arguments)
@@ -83,6 +91,7 @@ fn parse_whole(alloc: Global, text: &[u8], whole: Whole) -> Result<Script, Synta
 
     ensures ok { IfOk result (λ script. IsAccepted (rule_for whole) text.now (tree_of script)) }
     ensures tree { IfOk result (λ script. IsTreeOf script (tree_of script)) }
+    ensures nodes { IfOk result AreOfTheirTree }
     ensures err { IfErr result (IsFaultBy (rule_for whole) text.now) }
 {
     match lex(alloc, text) {
@@ -99,6 +108,7 @@ fn parse_tokens(
 ) -> Result<Script, SyntaxFault>
     ensures ok { IfOk result (λ script. answer_by (rule_for whole) end tokens.now ≡ accepted (tree_of script)) }
     ensures tree { IfOk result (λ script. IsTreeOf script (tree_of script)) }
+    ensures nodes { IfOk result AreOfTheirTree }
     ensures err { IfErr result (IsRejected (rule_for whole) end tokens.now) }
 {
     let mut reader = start(alloc, tokens)?;
@@ -108,7 +118,10 @@ fn parse_tokens(
             let refused = refusal(alloc, &reader, why, end)?;
             Err(SyntaxFault::Refused(refused))
         }
-        None => finished(reader.builder),
+        None => {
+            accepted_trees_are_whole();
+            finished(reader.builder)
+        }
     }
 }
 
@@ -118,7 +131,7 @@ fn start(alloc: Global, tokens: &[Token]) -> Result<Reader<'_>, NoMemory>
 {
     let outer = Draft::new(alloc, Kind::Absent, 0);
     let top = Draft::new(alloc, Kind::Script, 0);
-    let script = Script::new(alloc);
+    let nodes = Nodes::new(alloc);
     let class = class_of(tokens);
     let mut below = Items::new(alloc);
     below.push(outer)?;
@@ -129,7 +142,7 @@ fn start(alloc: Global, tokens: &[Token]) -> Result<Reader<'_>, NoMemory>
         refused: None,
         builder: Builder {
             alloc,
-            script,
+            nodes,
             top,
             below,
         },
@@ -178,23 +191,17 @@ fn read(reader: &mut Reader<'_>, levels: u32, form: Form) -> Result<(), NoMemory
     }
 }
 
-/// The script whose root is the last part of the innermost form. That this part is no other node
-/// than the last is tested.
+/// The script whose root is the last part of the innermost form: the nodes of that part's tree, and
+/// no others.
 fn finished(builder: Builder) -> Result<Script, SyntaxFault>
-    ensures ok { IfOk result (λ script. (rest : List Token) → tree_of_parts (work_in rest builder).top.parts ≡ tree_of script) }
+    requires { IsWholeTree (last_tree builder) }
+
+    ensures ok { IfOk result (λ script. tree_of script ≡ last_tree builder) }
     ensures tree { IfOk result (λ script. IsTreeOf script (tree_of script)) }
+    ensures nodes { IfOk result AreOfTheirTree }
     ensures err { IfErr result (λ fault. fault ≡ SyntaxFault.NoMemory) }
 {
-    let last = builder.last_piece();
-    let script = builder.script;
-    match last {
-        Some(piece) => {
-            if piece.node + 1 == script.len() {
-                Ok(script)
-            } else {
-                Err(SyntaxFault::NoMemory)
-            }
-        }
-        None => Err(SyntaxFault::NoMemory),
-    }
+    let root = builder.last_piece().unwrap().node;
+    let nodes = builder.nodes.up_to(root);
+    Ok(prune(builder.alloc, &nodes)?)
 }

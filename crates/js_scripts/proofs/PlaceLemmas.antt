@@ -7,10 +7,10 @@ use Rattle.js_syntax.specs.declared.node.Node.{Node}
 use Rattle.js_syntax.specs.Tree.{Trees, tree, AreTrees, no_trees, some_trees, head_of, IsTreeOf}
 use Rattle.js_trees.specs.Tree.{node_at, vacant}
 use Rattle.js_scripts.specs.Lowest.{lower_of, unbuilt_place, lowest_below}
-use Rattle.js_scripts.specs.Nodes.{node_in, first_nodes, nodes_of}
+use Rattle.js_parser.specs.Nodes.{node_in, first_nodes, nodes_of}
 use Rattle.js_scripts.specs.Unbuilt.{is_unbuilt, unbuilt_places, least_of, least, first_unbuilt}
-use Rattle.js_scripts.proofs.ReachedLemmas.{Among, itself, inside, behind, found_among, among_within}
-use Rattle.js_scripts.proofs.NodeLemmas.{get-first_nodes, nodes_up_to}
+use Rattle.js_parser.proofs.ReachedLemmas.{Among, itself, inside, behind, found_among, among_within}
+use Rattle.js_parser.proofs.NodeLemmas.{get-first_nodes, nodes_up_to}
 
 -- ---- the least of some numbers
 

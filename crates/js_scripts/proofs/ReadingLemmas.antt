@@ -25,7 +25,7 @@ use Rattle.js_parser.specs.Parsed.{HasTree, IsRefusedText, IsFault}
 use Rattle.js_syntax.specs.declared.check.EarlyFault.{EarlyFault}
 use Rattle.js_syntax.specs.declared.check.EarlyFault.TheVariants.{Refused as EarlyRefused}
 use Rattle.js_syntax.specs.Answer.{refusal_of, Refuses}
-use Rattle.js_scripts.specs.Nodes.{nodes_of}
+use Rattle.js_parser.specs.Nodes.{AreOfTheirTree}
 use Rattle.js_scripts.specs.Lowest.{lowest_below}
 use Rattle.js_scripts.specs.Says.{IsToldOf, told_of, Says, has_fault, has_unbuilt, is_whole}
 use Rattle.js_scripts.specs.Text.{Reading, script, refused, unbuilt_refusal, IsFaultOf, Reads, no_tokens, no_tree, early, unbuilt, whole}
@@ -70,29 +70,21 @@ pub early_told : (nodes : List Node) (found : EarlyFault) (told : SyntaxFault) �
 early_told nodes (EarlyRefused r others) told (back, refuses) is t trees =
     subst (λ (v : SyntaxFault). IsToldOf t v) (sym is) (early_least nodes r refuses t trees)
 
--- other nodes of the same tree have no early fault either
-pub still_checked : (nodes others : List Node) → HasNoEarlyFault nodes → (t : Trees) × IsTreeOf nodes t
-    → ((t : Trees) → IsTreeOf nodes t → IsTreeOf others t) → HasNoEarlyFault others
-still_checked nodes others checked (t, trees) keeps s its =
-    ap (λ (v : Trees). faults_of outside v) (tree_unique others s t its (keeps t trees)) ∙ checked t trees
-
 -- the least place among its nodes is told
-pub unbuilt_told : (nodes pruned : List Node) (lowest : Option ℕ) (place : ℕ) (r : Refusal) → HasNoEarlyFault nodes
-    → ((t : Trees) → IsTreeOf nodes t → pruned ≡ nodes_of t) → ((t : Trees) → IsTreeOf nodes t → IsTreeOf pruned t)
-    → lowest ≡ lowest_below pruned (length pruned) → lowest ≡ Some place → r ≡ unbuilt_refusal place
+pub unbuilt_told : (nodes : List Node) (lowest : Option ℕ) (place : ℕ) (r : Refusal) → HasNoEarlyFault nodes → AreOfTheirTree nodes
+    → lowest ≡ lowest_below nodes (length nodes) → lowest ≡ Some place → r ≡ unbuilt_refusal place
     → (t : Trees) → IsTreeOf nodes t → Says t (refused r)
-unbuilt_told nodes pruned lowest place r checked alone keeps low found is t trees =
-    let first : first_unbuilt t ≡ Some place = sym (lowest_first pruned t (keeps t trees) (alone t trees)) ∙ (sym low ∙ found) in
+unbuilt_told nodes lowest place r checked alone low found is t trees =
+    let first : first_unbuilt t ≡ Some place = sym (lowest_first nodes t trees (alone t trees)) ∙ (sym low ∙ found) in
     subst (λ (v : Refusal). Says t (refused v)) (sym is) (has_unbuilt (checked t trees) first)
 
 -- without one the nodes are the script
-pub whole_told : (nodes pruned result : List Node) (lowest : Option ℕ) → HasNoEarlyFault nodes
-    → ((t : Trees) → IsTreeOf nodes t → pruned ≡ nodes_of t) → ((t : Trees) → IsTreeOf nodes t → IsTreeOf pruned t)
-    → lowest ≡ lowest_below pruned (length pruned) → lowest ≡ None → result ≡ pruned
-    → (t : Trees) → IsTreeOf nodes t → Says t (script result)
-whole_told nodes pruned result lowest checked alone keeps low none is t trees =
-    let all : first_unbuilt t ≡ None = sym (lowest_first pruned t (keeps t trees) (alone t trees)) ∙ (sym low ∙ none) in
-    subst (λ (v : List Node). Says t (script v)) (sym (is ∙ alone t trees)) (is_whole (checked t trees) all)
+pub whole_told : (nodes : List Node) (lowest : Option ℕ) → HasNoEarlyFault nodes → AreOfTheirTree nodes
+    → lowest ≡ lowest_below nodes (length nodes) → lowest ≡ None
+    → (t : Trees) → IsTreeOf nodes t → Says t (script nodes)
+whole_told nodes lowest checked alone low none t trees =
+    let all : first_unbuilt t ≡ None = sym (lowest_first nodes t trees (alone t trees)) ∙ (sym low ∙ none) in
+    subst (λ (v : List Node). Says t (script v)) (sym (alone t trees)) (is_whole (checked t trees) all)
 
 -- ---- one least fault
 

@@ -11,7 +11,7 @@ use Rattle.js_lexer.specs.declared.token.SyntaxFault.TheVariants as faults
 use Rattle.js_syntax.specs.declared.check.EarlyFault.{EarlyFault}
 use Rattle.js_syntax.specs.declared.check.EarlyFault.TheVariants as early_faults
 use Rattle.js_syntax.specs.Answer.{refusal_of}
-use Rattle.js_scripts.specs.Nodes.{nodes_of}
+use Rattle.js_parser.specs.Nodes.{nodes_of}
 use Rattle.js_scripts.specs.Text.{Reading, script, refused, unbuilt_refusal}
 use Rattle.js_scripts.specs.Unbuilt.{first_unbuilt}
 

@@ -15,7 +15,7 @@ use Rattle.js_lexer.specs.Tokens.{IsRefusal}
 use Rattle.js_grammar.specs.Derives.{ScriptBy, Derives}
 use Rattle.js_parser.specs.Parsed.{HasTree, IsRefusedText}
 use Rattle.js_syntax.specs.Answer.{refusal_of}
-use Rattle.js_scripts.specs.Nodes.{nodes_of}
+use Rattle.js_parser.specs.Nodes.{nodes_of}
 use Rattle.js_scripts.specs.Unbuilt.{first_unbuilt}
 
 -- what a text can be

@@ -5,13 +5,10 @@
 //! Rely on: a text is read in one way; two scripts of one text are the same nodes.
 //! Over `js_lexer`, `js_parser`, `js_syntax` and `js_trees`; under `isolate_meaning` and
 //! `isolate_core`.
-//! Begin with `specs/Text.antt` and `specs/Nodes.antt`, then `src/read.rt`.
+//! Begin with `specs/Text.antt`, then `src/read.rt`.
 #![tactic(auto)]
 
-mod copy;
 mod laws;
-mod marks;
-mod prune;
 mod read;
 mod unbuilt;
 

@@ -1,11 +1,10 @@
 //! A script from the bytes of its text.
 ghost use Rattle.std.specs.Prelude.{◌≡◌, ◌<◌, ◌^◌, length, IfOk, IfErr};
-ghost use Rattle.js_syntax.specs.Early.{HasNoEarlyFault};
 ghost use Rattle.js_syntax.specs.Tree.{Trees, IsTreeOf};
+ghost use Rattle.js_parser.specs.Nodes.{AreOfTheirTree};
 ghost use Rattle.js_scripts.specs.Says.{IsToldOf, Says, told_of};
 ghost use Rattle.js_scripts.specs.Text.{script, IsFaultOf, Reads, unbuilt_refusal};
 
-use crate::prune::prune;
 use crate::unbuilt::lowest_unbuilt;
 use js_parser::{SyntaxFault, parse};
 use js_syntax::{Checked, EarlyFault, Refusal, RefusalKind, Script, early};
@@ -22,20 +21,16 @@ fn unbuilt(place: u32) -> Refusal
     }
 }
 
-// The nodes of the tree of a script without early faults, or the refusal of its first form that
-// isn't built.
-fn built(alloc: Global, parsed: &Script) -> Result<Checked, SyntaxFault>
-    requires some { 0 < length parsed.now }
-    requires checked { HasNoEarlyFault parsed.now }
+// A script without early faults, or the refusal of its first form that isn't built.
+fn built(checked: Checked) -> Result<Checked, SyntaxFault>
+    requires { AreOfTheirTree checked }
 
-    ensures ok { IfOk result (λ nodes. (t : Trees) → IsTreeOf parsed.now t → Says t (script nodes)) }
-    ensures err { IfErr result (λ fault. (t : Trees) → IsTreeOf parsed.now t → IsToldOf t fault) }
+    ensures ok { IfOk result (λ nodes. (t : Trees) → IsTreeOf checked t → Says t (script nodes)) }
+    ensures err { IfErr result (λ fault. (t : Trees) → IsTreeOf checked t → IsToldOf t fault) }
 {
-    parsed.one_tree();
-    let pruned = prune(alloc, parsed)?;
-    match lowest_unbuilt(&pruned) {
+    match lowest_unbuilt(checked.script()) {
         Some(place) => Err(SyntaxFault::Refused(unbuilt(place))),
-        None => Ok(Checked::of(pruned)),
+        None => Ok(checked),
     }
 }
 
@@ -49,23 +44,22 @@ fn told(fault: EarlyFault) -> SyntaxFault
 }
 
 // The same of any script: its early fault is told first.
-fn judged(alloc: Global, parsed: Script) -> Result<Checked, SyntaxFault>
-    requires { 0 < length parsed }
+fn judged(parsed: Script) -> Result<Checked, SyntaxFault>
+    requires { AreOfTheirTree parsed }
 
     ensures ok { IfOk result (λ nodes. (t : Trees) → IsTreeOf parsed t → Says t (script nodes)) }
     ensures err { IfErr result (λ fault. (t : Trees) → IsTreeOf parsed t → IsToldOf t fault) }
 {
     match early(parsed) {
-        Ok(checked) => built(alloc, checked.script()),
+        Ok(checked) => built(checked),
         Err(fault) => Err(told(fault)),
     }
 }
 
 /// The script of a text of fewer than 2^32 bytes (ECMA-262, ParseScript).
 ///
-/// Its nodes are those of the text's one tree, each form under the number that the tree gives it;
-/// what the parser made on its way and took back is not among them. A text is refused as `parse`
-/// refuses it; else at its least early fault; else, as `Unexpected`, at the first form that isn't
+/// Its nodes are those of the text's one tree, each form under the number that the tree gives it. A
+/// text is refused as `parse` refuses it; else at its least early fault; else, as `Unexpected`, at the first form that isn't
 /// built: a `new`.
 pub fn read_script(alloc: Global, text: &[u8]) -> Result<Checked, SyntaxFault>
     requires { length text.now < 2 ^ 32 }
@@ -74,7 +68,7 @@ pub fn read_script(alloc: Global, text: &[u8]) -> Result<Checked, SyntaxFault>
     ensures err { IfErr result (IsFaultOf text.now) }
 {
     match parse(alloc, text) {
-        Ok(parsed) => judged(alloc, parsed),
+        Ok(parsed) => judged(parsed),
         Err(fault) => Err(fault),
     }
 }

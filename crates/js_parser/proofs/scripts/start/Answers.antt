@@ -8,7 +8,7 @@ use Rattle.js_parser.proofs.scripts.start.Goals as goal
 
 pub invariant_of-result : goal.invariant_of-result
 invariant_of-result c =
-    let n : ℕ = length c.new-script.result in
+    let n : ℕ = length c.new-nodes.result in
     record {
       top_known = ap (λ (d : Draft). known n d.pieces) c.new-top.ensures;
       below_known = put_known n c.new-below.result c.push.new.self c.new-outer.result c.in_ok-push.ensures.ok (none_known n c.new-below.result c.new-below.ensures)
@@ -17,5 +17,5 @@ invariant_of-result c =
 
 pub returns : goal.returns
 unfolding state_of
-returns c = endings.started c.args.tokens.now c.new-script.result c.new-top.result c.new-outer.result c.push.new.self c.new-script.ensures c.new-top.ensures
+returns c = endings.started c.args.tokens.now c.new-nodes.result c.new-top.result c.new-outer.result c.push.new.self c.new-nodes.ensures c.new-top.ensures
     (c.in_ok-push.ensures.ok ∙ ap (λ (ds : List Draft). ds ++ c.new-outer.result ∷ []) c.new-below.ensures) c.new-outer.ensures

@@ -7,9 +7,9 @@ use Rattle.js_parser.proofs.builder.Builder.shorthand.Goals as goal
 
 pub returns-in-Some : goal.returns-in-Some
 returns-in-Some c = works.ok_map c.add.result
-    (λ _ e rest. works.shorthand_some (work_in rest c.args.self.now) _ (frame_of (grown [] c.args.self.now.script) _) (c.in-Some.name, c.in-Some.place)
+    (λ _ e rest. works.shorthand_some (work_in rest c.args.self.now) _ (frame_of (grown [] c.args.self.now.nodes) _) (c.in-Some.name, c.in-Some.place)
     (sym c.in-Some.is ∙ c.in_ok-name.ensures)
-    (works.leaf_frame (grown [] c.args.self.now.script) _ c.in-Some.name c.in-Some.place
+    (works.leaf_frame (grown [] c.args.self.now.nodes) _ c.in-Some.name c.in-Some.place
     (ap (λ (d : Draft). record d { name = Some c.in-Some.name; name_place = c.in-Some.place }) c.new-leaf.ensures))
     (e rest))
     c.add.ensures

@@ -1,0 +1,6 @@
+mod Parts
+mod Operators
+mod Expressions
+mod Statements
+mod Literals
+mod Formed
