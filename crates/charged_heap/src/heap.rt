@@ -234,12 +234,13 @@ impl Heap {
         ensures closed { IsClosed self.old → IsClosed self.new }
     {
         self.room(BINDING_CELLS)?;
+        let alloc = self.alloc;
         let binding = Binding {
-            name: name.clone_whole(self.alloc)?,
+            name: name.clone_whole(alloc)?,
             constant,
             value: None,
         };
-        self.items[n as usize].push_binding(binding)?;
+        self.items[n as usize].push_binding(alloc, binding)?;
         self.charged += BINDING_CELLS as u32;
         Ok(())
     }

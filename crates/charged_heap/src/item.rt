@@ -5,7 +5,6 @@ ghost use Rattle.ivm_text.specs.Keys.{value_at};
 ghost use Rattle.charged_heap.specs.Store.{kind_of, IsPlain, IsArray, IsScope, IsPromise, IsReference, properties, elements, place_count, with_property, with_elements, with_place, with_binding, with_function, with_reaction, with_state, released};
 ghost use Rattle.charged_heap.specs.declared.price.TheConstants.{ELEMENT_CELLS, BINDING_CELLS, REACTION_CELLS};
 
-use crate::scope::{bind, note};
 use crate::{Binding, Bindings, Names, PromiseState, Props, Reaction, Reactions, Value, Values};
 use ivm_text::{Copy, ErrorKind, Handle, Units};
 use std::alloc::{AllocError, Global};
@@ -166,19 +165,19 @@ impl Item {
     {
         match self {
             Item::Array(values) => values.set(place, value),
-            Item::Scope { bindings, .. } => bind(bindings, alloc, place, value),
+            Item::Scope { bindings, .. } => bindings.bind(alloc, place, value),
             _ => unreachable!(),
         }
     }
 
-    pub(crate) fn push_binding(&mut self, binding: Binding) -> Result<(), AllocError>
+    pub(crate) fn push_binding(&mut self, alloc: Global, binding: Binding) -> Result<(), AllocError>
         requires { IsScope (kind_of self.old) }
         ensures ok { OnOk result (self.new ≡ with_binding self.old binding) }
         ensures err { OnErr result (self.new ≡ self.old) }
         ensures price { OnOk result (price_of self.new ≡ price_of self.old + BINDING_CELLS) }
     {
         match self {
-            Item::Scope { bindings, .. } => bindings.push(binding),
+            Item::Scope { bindings, .. } => bindings.push(alloc, binding),
             _ => unreachable!(),
         }
     }
@@ -190,7 +189,7 @@ impl Item {
         ensures price { price_of self.new ≡ price_of self.old }
     {
         match self {
-            Item::Scope { functions, .. } => note(functions, alloc, name),
+            Item::Scope { functions, .. } => functions.note(alloc, name),
             _ => unreachable!(),
         }
     }

@@ -7,6 +7,7 @@
 //! Begin with `specs/Price.antt` and `specs/Store.antt`, then `src/heap.rt`.
 #![tactic(auto)]
 
+mod bindings;
 mod builtin;
 mod closed;
 mod fault;
@@ -14,21 +15,23 @@ mod heap;
 mod item;
 mod kinds;
 mod making;
+mod names;
 mod order;
 mod price;
 mod props;
-mod scope;
 mod values;
 
+pub use bindings::Bindings;
 pub use builtin::Builtin;
 pub use fault::{Fail, HeapFault};
 pub use heap::Heap;
 pub use item::{Item, ItemKind};
 pub use making::make;
+pub use names::Names;
 pub use order::{INDEX_END, index_of, key_order};
 pub use price::{
     BINDING_CELLS, ELEMENT_CELLS, GREATEST_TOLD, ITEM_CELLS, PROPERTY_CELLS, REACTION_CELLS,
     ROW_CELLS, SCOPE_CELLS, TEXT_CELLS, UNITS_PER_CELL, price_of, property_price, text_price,
 };
 pub use props::Props;
-pub use values::{Binding, Bindings, Names, PromiseState, Reaction, Reactions, Value, Values};
+pub use values::{Binding, PromiseState, Reaction, Reactions, Value, Values};

@@ -19,9 +19,6 @@ pub enum Value {
 /// The elements of an array, or the arguments of a call.
 pub type Values = Items<Value>;
 
-/// Names in the order in which they were noted.
-pub type Names = Items<Units>;
-
 /// A name of a scope. It has no value in its dead zone (ECMA-262, TDZ).
 #[derive(Debug, Drop)]
 pub struct Binding {
@@ -29,9 +26,6 @@ pub struct Binding {
     pub constant: bool,
     pub value: Option<Value>,
 }
-
-/// The bindings of a scope in order of declaration.
-pub type Bindings = Items<Binding>;
 
 /// The state of a promise (ECMA-262, Promise Objects). One that adopts another is pending still.
 #[derive(Debug, Clone, Copy, PartialEq, Eq)]

@@ -80,7 +80,7 @@ fn context_items(alloc: Global, heap: &mut Heap) -> Result<MadeContext, Fail>
     let scope = Item::Scope {
         parent: None,
         bindings: Bindings::new(alloc),
-        functions: Names::new(alloc),
+        functions: Names::new(),
     };
     let names = make(heap, scope)?;
     let context = Context { names, global };

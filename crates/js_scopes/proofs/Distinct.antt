@@ -7,7 +7,8 @@ use Rattle.std.proofs.lemmas.List.Quantifiers.{all_pairs_push}
 use Rattle.std.proofs.lemmas.List.Sums.{fails_before_first}
 use Rattle.ivm_text.specs.Keys.{is_key}
 use Rattle.charged_heap.specs.declared.values.Binding.{Binding}
-use Rattle.js_scopes.specs.Bindings.{place_of, new_binding, AreDistinct}
+use Rattle.charged_heap.specs.Bindings.{place_of}
+use Rattle.js_scopes.specs.Bindings.{new_binding, AreDistinct}
 
 -- where no place passes, none of the elements does
 none_passes : {X : Type 0} (p : X → Bool) (xs : List X) (k : ℕ) (d : X) → is_some (position p xs) ≡ false → k < length xs → p (get_or xs k d) ≡ false

@@ -12,7 +12,8 @@ use Rattle.charged_heap.specs.declared.fault.Fail.TheVariants.{Throw, Over, NoMe
 use Rattle.charged_heap.specs.declared.item.Item.{Item}
 use Rattle.charged_heap.specs.declared.values.Binding.{Binding}
 use Rattle.charged_heap.specs.declared.values.Value.{Value}
-use Rattle.js_scopes.specs.Bindings.{place_of, new_binding, with_new}
+use Rattle.charged_heap.specs.Bindings.{place_of}
+use Rattle.js_scopes.specs.Bindings.{new_binding, with_new}
 use Rattle.js_scopes.specs.Scopes.{scope_made, scope_with}
 use Rattle.js_trees.specs.declared.declaration.Declaration.{Declaration}
 use Rattle.js_trees.specs.declared.declaration.Declaration.TheVariants.{Variable, Constant, Function}

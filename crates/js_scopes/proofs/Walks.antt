@@ -5,7 +5,8 @@ use Rattle.charged_heap.specs.Store.{Store, IsAt, IsScope, item_at}
 use Rattle.charged_heap.specs.Closed.{IsClosed, IsSound, IsParentOf}
 use Rattle.charged_heap.specs.declared.item.Item.{Item}
 use Rattle.charged_heap.specs.declared.item.Item.TheVariants as item
-use Rattle.js_scopes.specs.Bindings.{bindings_of, parent_of, place_of}
+use Rattle.charged_heap.specs.Bindings.{place_of}
+use Rattle.js_scopes.specs.Bindings.{bindings_of, parent_of}
 use Rattle.js_scopes.specs.Lookup.{here_or_outwards, binding_within, binding_of, WalksOutwards}
 use Rattle.js_scopes.specs.declared.lookup.BindingPlace.{BindingPlace}
 

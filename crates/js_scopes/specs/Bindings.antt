@@ -1,9 +1,10 @@
--- The bindings of a scope: by name, by place, and with one more.
+-- The bindings of a scope: by place, and with one more. `charged_heap` has their places by name.
 -- ECMA-262, Declarative Environment Records; docs/SCRIPTS.md, "Names and scopes".
-use Rattle.std.specs.Prelude.{◌≡◌, ℕ, List, [], ◌∷◌, ◌++◌, Bool, false, Option, None, position, is_some, slice_index_or, if◌then◌else◌, AllPairs}
+use Rattle.std.specs.Prelude.{◌≡◌, ℕ, List, [], ◌∷◌, ◌++◌, Bool, false, Option, None, is_some, slice_index_or, if◌then◌else◌, AllPairs}
 use Rattle.ivm_text.specs.Keys.{is_key}
 use Rattle.charged_heap.specs.declared.item.Item.{Item}
 use Rattle.charged_heap.specs.declared.item.Item.TheVariants.{Scope}
+use Rattle.charged_heap.specs.Bindings.{place_of}
 use Rattle.charged_heap.specs.declared.values.Binding.{Binding}
 
 -- ---- parts of a scope, and nothing at an item of another kind
@@ -23,10 +24,6 @@ functions_of (Scope parent bindings functions) = functions
 functions_of _ = []
 
 -- ---- one of the bindings
-
--- the place of the first binding with the name
-abbrev pub place_of : List Binding → List ℕ → Option ℕ
-place_of bindings name = position (λ b. is_key b.name name) bindings
 
 -- a name that is declared and has no value yet: it is in its dead zone
 abbrev pub new_binding : List ℕ → Bool → Binding

@@ -5,7 +5,8 @@ use Rattle.charged_heap.specs.Store.{Store, item_at, is_noted}
 use Rattle.charged_heap.specs.declared.item.Item.{Item}
 use Rattle.charged_heap.specs.declared.values.Value.{Value}
 use Rattle.charged_heap.specs.Ends.{Ends}
-use Rattle.js_scopes.specs.Bindings.{bindings_of, functions_of, place_of}
+use Rattle.charged_heap.specs.Bindings.{place_of}
+use Rattle.js_scopes.specs.Bindings.{bindings_of, functions_of}
 use Rattle.js_ops.specs.Outcome.{name_error_thrown}
 use Rattle.js_ops.specs.declared.error.ScriptError.TheVariants.{AlreadyDeclared}
 

@@ -5,7 +5,8 @@ use Rattle.ivm_text.specs.Keys.{is_key, value_at}
 use Rattle.charged_heap.specs.Store.{Store, IsAt, IsScope, item_at, properties}
 use Rattle.charged_heap.specs.declared.values.Value.{Value}
 use Rattle.charged_heap.specs.declared.values.Value.TheVariants as value
-use Rattle.js_scopes.specs.Bindings.{bindings_of, parent_of, place_of}
+use Rattle.charged_heap.specs.Bindings.{place_of}
+use Rattle.js_scopes.specs.Bindings.{bindings_of, parent_of}
 use Rattle.js_scopes.specs.declared.lookup.BindingPlace.{BindingPlace}
 use Rattle.js_scopes.specs.declared.lookup.Lookup.{Lookup}
 use Rattle.js_scopes.specs.declared.lookup.Lookup.TheVariants.{Bound, Property, Builtin, Nowhere}

@@ -7,7 +7,8 @@ use Rattle.charged_heap.specs.declared.item.Item.{Item}
 use Rattle.charged_heap.specs.declared.item.Item.TheVariants.{Scope}
 use Rattle.charged_heap.specs.declared.values.Binding.{Binding}
 use Rattle.charged_heap.specs.declared.values.Value.{Value}
-use Rattle.js_scopes.specs.Bindings.{bindings_of, parent_of, place_of}
+use Rattle.charged_heap.specs.Bindings.{place_of}
+use Rattle.js_scopes.specs.Bindings.{bindings_of, parent_of}
 use Rattle.js_scopes.specs.Names.{with_bound_at}
 
 -- ---- making

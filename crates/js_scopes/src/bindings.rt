@@ -3,30 +3,12 @@ ghost use Rattle.std.specs.Prelude.{◌≡◌, ◌<◌, length, IfOk, IfSome, On
 ghost use Rattle.std.specs.List.{All};
 ghost use Rattle.charged_heap.specs.Closed.{IsSoundBinding};
 ghost use Rattle.charged_heap.specs.Store.{Store};
-ghost use Rattle.js_scopes.specs.Bindings.{bindings_of, parent_of, place_of, with_new, AreDistinct};
+ghost use Rattle.charged_heap.specs.Bindings.{place_of};
+ghost use Rattle.js_scopes.specs.Bindings.{bindings_of, parent_of, with_new, AreDistinct};
 
 use charged_heap::{Binding, Bindings, Item};
-use ivm_text::{CloneWhole, Items, NoMemory, Units};
+use ivm_text::{CloneWhole, NoMemory, Units};
 use std::alloc::Global;
-
-/// The place of the first binding with a name, in a slice.
-fn position_of(bindings: &[Binding], name: &Units) -> Option<usize>
-    ensures place { result ≡ place_of bindings.now name.now }
-    ensures within { IfSome result (λ place. place < length bindings.now) }
-{
-    bindings.iter().position(|binding| binding.name == *name)
-}
-
-/// The place of the first binding with a name.
-pub(crate) fn place_of(bindings: &Bindings, name: &Units) -> Option<u32>
-    ensures place { result ≡ place_of bindings.now name.now }
-    ensures within { IfSome result (λ place. place < length bindings.now) }
-{
-    match position_of(bindings.as_slice(), name) {
-        Some(place) => Some(place as u32),
-        None => None,
-    }
-}
 
 /// The place of a name in an item; items that are no scopes have no bindings.
 pub(crate) fn place_in(item: &Item, name: &Units) -> Option<u32>
@@ -34,7 +16,7 @@ pub(crate) fn place_in(item: &Item, name: &Units) -> Option<u32>
     ensures within { IfSome result (λ place. place < length (bindings_of item.now)) }
 {
     match item {
-        Item::Scope { bindings, .. } => place_of(bindings, name),
+        Item::Scope { bindings, .. } => bindings.place_of(name),
         _ => None,
     }
 }
@@ -64,9 +46,9 @@ fn copy_binding(alloc: Global, binding: &Binding) -> Result<Binding, NoMemory>
 fn copy_all(alloc: Global, bindings: &Bindings) -> Result<Bindings, NoMemory>
     ensures { IfOk result (λ copy. copy ≡ bindings.now) }
 {
-    let mut copy = Items::new(alloc);
+    let mut copy = Bindings::new(alloc);
     for binding in bindings.as_slice() {
-        copy.push(copy_binding(alloc, binding)?)?;
+        copy.push(alloc, copy_binding(alloc, binding)?)?;
     }
     Ok(copy)
 }
@@ -77,7 +59,7 @@ pub(crate) fn copy_bindings(alloc: Global, item: &Item) -> Result<Bindings, NoMe
 {
     match item {
         Item::Scope { bindings, .. } => copy_all(alloc, bindings),
-        _ => Ok(Items::new(alloc)),
+        _ => Ok(Bindings::new(alloc)),
     }
 }
 
@@ -96,7 +78,7 @@ pub fn add_binding(
     // What the bindings name is as sound as before, in whatever heap the scope will be made.
     ensures sound { (s : Store) → All (IsSoundBinding s) bindings.old → All (IsSoundBinding s) bindings.new }
 {
-    if place_of(bindings, name).is_some() {
+    if bindings.place_of(name).is_some() {
         return Ok(());
     }
     let binding = Binding {
@@ -104,6 +86,6 @@ pub fn add_binding(
         constant,
         value: None,
     };
-    bindings.push(binding)?;
+    bindings.push(alloc, binding)?;
     Ok(())
 }

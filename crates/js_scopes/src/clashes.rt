@@ -18,7 +18,7 @@ fn notes_function(item: &Item, name: &Units) -> bool
     ensures { result ≡ is_noted (functions_of item.now) name.now }
 {
     match item {
-        Item::Scope { functions, .. } => functions.as_slice().contains(name),
+        Item::Scope { functions, .. } => functions.has(name),
         _ => false,
     }
 }

@@ -35,7 +35,7 @@ fn make_inside(
     ensures thrown { IfErr result (IsSoundFail heap.new) }
 {
     let bindings = new_bindings(alloc, parameters, declared)?;
-    make_scope(alloc, heap, Some(parent), bindings)
+    make_scope(heap, Some(parent), bindings)
 }
 
 /// Makes the scope of a block (ECMA-262, BlockDeclarationInstantiation) inside another, for a script with
@@ -140,7 +140,7 @@ fn one_name(
 {
     let mut bindings = Bindings::new(alloc);
     add_binding(alloc, &mut bindings, name, constant)?;
-    make_scope(alloc, heap, Some(parent), bindings)
+    make_scope(heap, Some(parent), bindings)
 }
 
 /// Makes the scope of a function expression's own name (ECMA-262, InstantiateOrdinaryFunctionExpression)

@@ -18,12 +18,7 @@ use std::alloc::Global;
 /// `Over` comes exactly where the cells of the scope and of its bindings don't fit together; then the
 /// heap is as it was. `NoMemory` may come.
 #[tactic(auto, unfolding(crate::specs::Scopes::scope_made))]
-pub fn make_scope(
-    alloc: Global,
-    heap: &mut Heap,
-    parent: Option<u32>,
-    bindings: Bindings,
-) -> Result<u32, Fail>
+pub fn make_scope(heap: &mut Heap, parent: Option<u32>, bindings: Bindings) -> Result<u32, Fail>
     requires { IfSome parent (IsAt IsScope heap.old) }
 
     ensures gives { Meets result heap.new (scope_made parent bindings heap.old) }
@@ -35,7 +30,7 @@ pub fn make_scope(
     let scope = Item::Scope {
         parent,
         bindings,
-        functions: Names::new(alloc),
+        functions: Names::new(),
     };
     make(heap, scope)
 }
@@ -56,7 +51,7 @@ pub fn copy_scope(alloc: Global, heap: &mut Heap, scope: u32) -> Result<u32, Fai
     let item = heap.get(scope);
     let parent = parent_of(item);
     let bindings = copy_bindings(alloc, item)?;
-    make_scope(alloc, heap, parent, bindings)
+    make_scope(heap, parent, bindings)
 }
 
 /// Gives the binding of a name in that very scope its first value (ECMA-262, InitializeBinding); a

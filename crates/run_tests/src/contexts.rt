@@ -1,8 +1,8 @@
 //! A heap with a context, and the scripts that are run in it.
 
 use anyhow::{Error, bail};
-use charged_heap::{Bindings, Heap, Item, Props, Value};
-use ivm_text::{Items, Refusal};
+use charged_heap::{Bindings, Heap, Item, Names, Props, Value};
+use ivm_text::Refusal;
 use js_parser::{SyntaxFault, parse};
 use js_syntax::{Checked, EarlyFault, Kind, Script, Scripts, early};
 use script_eval::run_script;
@@ -40,7 +40,7 @@ pub fn new_context(alloc: Global, limit: u32) -> Result<Context, Error> {
     heap.add(Item::Scope {
         parent: None,
         bindings: Bindings::new(alloc),
-        functions: Items::new(alloc),
+        functions: Names::new(),
     })?;
     heap.add(Item::Row(Value::Item(GLOBAL)))?;
     heap.add(Item::Script(0))?;

@@ -2,7 +2,7 @@
 
 use crate::values::{numbers_of, props_of, units_of};
 use anyhow::{Error, bail};
-use charged_heap::{Binding, Item, PromiseState, Reaction, Value};
+use charged_heap::{Binding, Bindings, Item, Names, PromiseState, Reaction, Value};
 use ivm_text::{Copy as PlainCopy, ErrorKind, Handle, Items, Leaf, TypeOf, Units};
 use std::alloc::Global;
 
@@ -63,18 +63,19 @@ fn array(alloc: Global, count: u32) -> Result<Item, Error> {
 }
 
 fn scope(alloc: Global, count: u32) -> Result<Item, Error> {
-    let mut bindings = Items::new(alloc);
+    let mut bindings = Bindings::new(alloc);
     for _ in 0..count {
-        bindings.push(Binding {
+        let binding = Binding {
             name: Units::new(alloc),
             constant: false,
             value: None,
-        })?;
+        };
+        bindings.push(alloc, binding)?;
     }
     Ok(Item::Scope {
         parent: None,
         bindings,
-        functions: Items::new(alloc),
+        functions: Names::new(),
     })
 }
 

@@ -64,7 +64,10 @@ fn main(rt: HostRuntime) -> Result<(), Error> {
         return run_rows(&rt);
     };
     match word.as_str() {
-        "eval" => eval::run(&rt, words.next().is_some()),
+        "eval" => {
+            let how = words.next();
+            eval::run(&rt, how.as_deref())
+        }
         "heap" => {
             let what = words.next();
             let count = words.next();

@@ -90,7 +90,7 @@ fn make(
 ) -> Result<Result<u32, Fail>, Error> {
     if row.field(1)? == "∅" {
         let bindings = bindings_of(alloc, row.field(2)?)?;
-        return Ok(make_scope(alloc, heap, None, bindings));
+        return Ok(make_scope(heap, None, bindings));
     }
     let parent = scope_at(scopes, row.field(1)?)?;
     needs(heap.is_closed())?;
@@ -99,7 +99,7 @@ fn make(
     match row.field(0)? {
         "scope" => {
             let bindings = bindings_of(alloc, row.field(2)?)?;
-            Ok(make_scope(alloc, heap, Some(parent), bindings))
+            Ok(make_scope(heap, Some(parent), bindings))
         }
         "copy" => Ok(copy_scope(alloc, heap, parent)),
         "block" => {
@@ -197,7 +197,7 @@ fn declaration_of(alloc: Global, word: &str, name: &str) -> Result<Declaration, 
 
 /// Bindings of the names that a field declares. A name that stands there twice is bound once.
 fn bindings_of(alloc: Global, field: &str) -> Result<Bindings, Error> {
-    let mut bindings = Items::new(alloc);
+    let mut bindings = Bindings::new(alloc);
     for declaration in declared_of(alloc, field)?.as_slice() {
         match declaration {
             Declaration::Variable(name) => add_binding(alloc, &mut bindings, name, false)?,

@@ -34,7 +34,8 @@ use Rattle.js_members.specs.declared.reading.Reading.{Reading}
 use Rattle.js_members.specs.declared.reading.Reading.TheVariants as reading
 use Rattle.js_members.specs.declared.target.Target.{Target}
 use Rattle.js_members.specs.declared.target.Target.TheVariants.{Property, Element, End, Refused}
-use Rattle.js_scopes.specs.Bindings.{bindings_of, binding_at, parent_of, place_of, new_binding}
+use Rattle.charged_heap.specs.Bindings.{place_of}
+use Rattle.js_scopes.specs.Bindings.{bindings_of, binding_at, parent_of, new_binding}
 use Rattle.js_scopes.specs.Clashes.{clash_outcome}
 use Rattle.js_scopes.specs.Lists.{with_declared, with_parameters, function_item, functions_made, block_scope, with_arguments, call_scope, name_scope, catch_scope}
 use Rattle.js_scopes.specs.Lookup.{binding_of, builtin_of, first_of, lookup}

@@ -1,6 +1,7 @@
 use Rattle.std.proofs.Common.{◌≡◌, ◌∙◌, ◌++◌, ◌∷◌, [], false, ap}
 use Rattle.std.specs.Prelude.{is_some}
-use Rattle.js_scopes.specs.Bindings.{place_of, new_binding}
+use Rattle.charged_heap.specs.Bindings.{place_of}
+use Rattle.js_scopes.specs.Bindings.{new_binding}
 use Rattle.js_scopes.proofs.Distinct.{distinct_pushed}
 use Rattle.js_scopes.proofs.bindings.add_binding.Goals as goal
 

@@ -1,7 +1,8 @@
 use Rattle.std.proofs.Common.{◌≡◌, ◌∙◌, None, ap, subst, sym}
 use Rattle.std.specs.Prelude.{IfSome}
 use Rattle.charged_heap.specs.Store.{IsAt, IsScope, item_at}
-use Rattle.js_scopes.specs.Bindings.{bindings_of, parent_of, place_of}
+use Rattle.charged_heap.specs.Bindings.{place_of}
+use Rattle.js_scopes.specs.Bindings.{bindings_of, parent_of}
 use Rattle.js_scopes.proofs.Walks.{outwards_from, step_out, parent_there}
 use Rattle.js_scopes.proofs.lookup.binding_of.Goals as goal
 
