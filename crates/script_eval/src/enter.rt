@@ -8,6 +8,7 @@ ghost use Rattle.js_ops.specs.Outcome.{thrown};
 ghost use Rattle.script_meaning.specs.Evaluates.{evaluated, too_deep};
 ghost use Rattle.script_meaning.specs.Functions.{builtin_rule};
 ghost use Rattle.script_steps.specs.After.{Steps, step_out, with_left};
+ghost use Rattle.script_steps.specs.Fits.{StepFits};
 ghost use Rattle.script_steps.specs.Sound.{IsSoundEnd, IsSoundSite, IsSoundStep};
 ghost use Rattle.script_eval.specs.Rest.{inner_out};
 ghost use Rattle.script_eval.specs.Weight.{IsEnded, IsStop};
@@ -42,6 +43,7 @@ fn too_deep(alloc: Global, scripts: &Scripts, heap: &mut Heap) -> Step
     ensures grown { Grows heap.old heap.new }
     ensures closed { IsClosed heap.old → IsClosed heap.new }
     ensures sound { IsSoundStep heap.new result }
+    ensures fits { StepFits scripts.now result }
 {
     let _ = scripts;
     of_heap(refuse_depth(alloc, heap))
@@ -84,6 +86,7 @@ pub(crate) fn enter(
     ensures grown { Grows heap.old heap.new }
     ensures closed { IsClosed heap.new }
     ensures sound { IsSoundStep heap.new result }
+    ensures fits { StepFits scripts.now result }
 {
     nodes_take_ticks();
     if !take_tick(left) {

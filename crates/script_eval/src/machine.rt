@@ -6,6 +6,7 @@ ghost use Rattle.script_meaning.specs.Evaluates.{evaluated, NESTING};
 ghost use Rattle.script_meaning.specs.Outcome.{State};
 ghost use Rattle.script_meaning.specs.Places.{ScriptList};
 ghost use Rattle.script_steps.specs.After.{step_out, with_left};
+ghost use Rattle.script_steps.specs.Fits.{StepFits};
 ghost use Rattle.script_steps.specs.Sound.{IsSoundEnd, IsSoundSite, IsSoundStep};
 ghost use Rattle.script_eval.specs.Machines.{AreSoundFrames, IsSoundControl};
 ghost use Rattle.script_eval.specs.Rest.{inner_out, left_over, rest};
@@ -57,7 +58,8 @@ fn place(
     requires depth { IsEnded step ⊎ (length frames.old < NESTING) }
     requires closed { IsClosed heap.old }
     requires step { IsSoundStep heap.old step }
-    requires frames { AreSoundFrames heap.old frames.old }
+    requires fits { StepFits scripts.now step }
+    requires frames { AreSoundFrames scripts.now heap.old frames.old }
 
     ensures meaning { IfOk result (λ next. left_over scripts.now frames.new next (with_left heap.new left.new) ≡ rest scripts.now 0 frames.old (step_out (evaluated scripts.now (255 - length frames.old)) scripts.now step (with_left heap.old left.old))) }
     ensures found { IfOk result (λ _. step ≢ Step.Ended (Err Abrupt.NoMemory)) }
@@ -67,7 +69,7 @@ fn place(
     ensures grown { Grows heap.old heap.new }
     ensures closed { IsClosed heap.new }
     ensures sound { IfOk result (IsSoundControl heap.new) }
-    ensures frames { AreSoundFrames heap.new frames.new }
+    ensures frames { AreSoundFrames scripts.now heap.new frames.new }
 {
     let _ = scripts;
     match step {
@@ -101,7 +103,7 @@ fn advance(
     requires running { IsRunning next }
     requires closed { IsClosed heap.old }
     requires next { IsSoundControl heap.old next }
-    requires frames { AreSoundFrames heap.old frames.old }
+    requires frames { AreSoundFrames scripts.now heap.old frames.old }
 
     ensures meaning { IfOk result (λ later. left_over scripts.now frames.new later (with_left heap.new left.new) ≡ left_over scripts.now frames.old next (with_left heap.old left.old)) }
     ensures falls { IfOk result (λ later. IsLast next frames.old ⊎ (weight later frames.new left.new < weight next frames.old left.old)) }
@@ -110,7 +112,7 @@ fn advance(
     ensures grown { Grows heap.old heap.new }
     ensures closed { IsClosed heap.new }
     ensures sound { IfOk result (IsSoundControl heap.new) }
-    ensures frames { AreSoundFrames heap.new frames.new }
+    ensures frames { AreSoundFrames scripts.now heap.new frames.new }
 {
     nodes_take_ticks();
     match next {

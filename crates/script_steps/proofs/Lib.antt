@@ -6,3 +6,4 @@ pub mod CallLemmas
 pub mod Passing
 pub mod LoopLemmas
 pub mod HandlerLemmas
+pub mod FitLemmas

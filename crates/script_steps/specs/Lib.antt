@@ -2,6 +2,7 @@ pub mod Ends
 pub mod Loops
 pub mod After
 pub mod Sound
+pub mod Fits
 pub mod Callees
 pub mod Leaves
 pub mod Called

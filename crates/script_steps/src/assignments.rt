@@ -4,10 +4,13 @@ ghost use Rattle.charged_heap.specs.Closed.{IsClosed, IsSoundValue};
 ghost use Rattle.charged_heap.specs.Growth.{Grows};
 ghost use Rattle.charged_heap.specs.Store.{Store};
 ghost use Rattle.js_ops.specs.Outcome.{unary_outcome};
+ghost use Rattle.js_syntax.specs.declared.kind.Kind.TheVariants as kinds;
+ghost use Rattle.js_ops.specs.declared.operators.Operator.TheVariants as operators;
 ghost use Rattle.script_meaning.specs.Expressions.{assign_rule, update_rule, step_rule, given};
 ghost use Rattle.script_meaning.specs.Outcome.{gives, of_heap, with_value};
 ghost use Rattle.script_meaning.specs.Places.{form_at, place_written};
 ghost use Rattle.script_steps.specs.After.{after, Steps, Waits};
+ghost use Rattle.script_steps.specs.Fits.{Is, IsForm, IsOperator, StepFits};
 ghost use Rattle.script_steps.specs.Sound.{IsSoundSite, IsSoundStep, IsSoundPlace};
 
 use crate::ends::{abrupt_of, of_heap};
@@ -23,11 +26,13 @@ use std::alloc::Global;
 // ---- `=`
 
 /// Begins `target = value`.
-#[tactic(auto, unfolding(crate::specs::After::after, script_meaning::specs::Expressions::assign_rule))]
+#[tactic(auto, unfolding(crate::specs::After::after, script_meaning::specs::Expressions::assign_rule), using(crate::proofs::FitLemmas::fits))]
 #[inline(always)]
 pub(crate) fn begin_assign(scripts: &Scripts, node: u32, site: Site) -> Step
+    requires form { IsForm (Is kinds.Assign) scripts.now site.script node }
     ensures step { Waits scripts.now result (λ at s. assign_rule scripts.now at ((form_at scripts.now site.script node).kids) site s) }
     ensures sound { (s : Store) → IsSoundSite s site → IsSoundStep s result }
+    ensures fits { StepFits scripts.now result }
 {
     let target = kid_at(scripts, site.script, node, 0);
     let right = kid_at(scripts, site.script, node, 1);
@@ -40,6 +45,7 @@ pub(crate) fn begin_assign(scripts: &Scripts, node: u32, site: Site) -> Step
 pub(crate) fn assign_target(scripts: &Scripts, right: u32, site: Site, place: Place) -> Step
     ensures step { Waits scripts.now result (λ at s. after at scripts.now (Frame.AssignTarget right site) (Ok (Ended.Place place), s)) }
     ensures sound { (s : Store) → IsSoundSite s site → IsSoundPlace s place → IsSoundStep s result }
+    ensures fits { StepFits scripts.now result }
 {
     let _ = scripts;
     Step::value(Frame::AssignValue { place, site }, right, site)
@@ -64,6 +70,7 @@ pub(crate) fn assign_value(
     ensures grown { Grows heap.old heap.new }
     ensures closed { IsClosed heap.new }
     ensures sound { IsSoundStep heap.new result }
+    ensures fits { StepFits scripts.now result }
 {
     of_heap(write_place(alloc, scripts, heap, site, place, value))
 }
@@ -71,7 +78,7 @@ pub(crate) fn assign_value(
 // ---- `+=` and its kin
 
 /// Begins `+=` and its kin.
-#[tactic(auto, unfolding(crate::specs::After::after, script_meaning::specs::Expressions::update_rule))]
+#[tactic(auto, unfolding(crate::specs::After::after, script_meaning::specs::Expressions::update_rule), using(crate::proofs::FitLemmas::fits))]
 #[inline(always)]
 pub(crate) fn begin_update(
     scripts: &Scripts,
@@ -79,8 +86,10 @@ pub(crate) fn begin_update(
     node: u32,
     site: Site,
 ) -> Step
+    requires form { IsForm (IsOperator (operators.Update operator)) scripts.now site.script node }
     ensures step { Waits scripts.now result (λ at s. update_rule operator scripts.now at ((form_at scripts.now site.script node).kids) site s) }
     ensures sound { (s : Store) → IsSoundSite s site → IsSoundStep s result }
+    ensures fits { StepFits scripts.now result }
 {
     let target = kid_at(scripts, site.script, node, 0);
     let right = kid_at(scripts, site.script, node, 1);
@@ -111,6 +120,7 @@ pub(crate) fn update_target(
     ensures grown { Grows heap.old heap.new }
     ensures closed { IsClosed heap.new }
     ensures sound { IsSoundStep heap.new result }
+    ensures fits { StepFits scripts.now result }
 {
     match read_place(alloc, scripts, heap, site, place) {
         Ok(old) => {
@@ -148,6 +158,7 @@ pub(crate) fn update_value(
     ensures grown { Grows heap.old heap.new }
     ensures closed { IsClosed heap.new }
     ensures sound { IsSoundStep heap.new result }
+    ensures fits { StepFits scripts.now result }
 {
     match js_ops::binary(alloc, heap, operator, old, value) {
         Ok(new) => of_heap(write_place(alloc, scripts, heap, site, place, new)),
@@ -169,6 +180,7 @@ pub(crate) fn begin_step(
 ) -> Step
     ensures step { Waits scripts.now result (λ at s. step_rule operator before scripts.now at ((form_at scripts.now site.script node).kids) site s) }
     ensures sound { (s : Store) → IsSoundSite s site → IsSoundStep s result }
+    ensures fits { StepFits scripts.now result }
 {
     let target = kid_at(scripts, site.script, node, 0);
     let waiting = Frame::StepTarget {
@@ -207,6 +219,7 @@ fn write_step(
     ensures grown { Grows heap.old heap.new }
     ensures closed { IsClosed heap.new }
     ensures sound { IsSoundStep heap.new result }
+    ensures fits { StepFits scripts.now result }
 {
     match write_place(alloc, scripts, heap, site, place, new) {
         Ok(_) => Step::Ended(Ok(Ended::Value(given))),
@@ -235,6 +248,7 @@ fn step_value(
     ensures grown { Grows heap.old heap.new }
     ensures closed { IsClosed heap.new }
     ensures sound { IsSoundStep heap.new result }
+    ensures fits { StepFits scripts.now result }
 {
     match js_ops::unary(alloc, heap, operator, old) {
         Ok(new) => {
@@ -264,6 +278,7 @@ pub(crate) fn step_target(
     ensures grown { Grows heap.old heap.new }
     ensures closed { IsClosed heap.new }
     ensures sound { IsSoundStep heap.new result }
+    ensures fits { StepFits scripts.now result }
 {
     match read_place(alloc, scripts, heap, site, place) {
         Ok(old) => step_value(alloc, scripts, heap, operator, before, site, place, old),

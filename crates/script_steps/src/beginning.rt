@@ -6,6 +6,7 @@ ghost use Rattle.charged_heap.specs.Store.{Store};
 ghost use Rattle.script_meaning.specs.Evaluates.{operation, value_by, callee_by, statement_by, node_by};
 ghost use Rattle.script_meaning.specs.Places.{form_at};
 ghost use Rattle.script_steps.specs.After.{Steps, Turns, Waits};
+ghost use Rattle.script_steps.specs.Fits.{Is, IsForm, IsOperator, StepFits};
 ghost use Rattle.script_steps.specs.Groups.{BeginsInside};
 ghost use Rattle.script_steps.specs.Sound.{IsThere, IsSoundSite, IsSoundStep};
 
@@ -36,8 +37,10 @@ use std::alloc::Global;
 /// Begins an operator by how it takes its operands.
 #[inline(always)]
 fn begin_operator(scripts: &Scripts, operator: Operator, node: u32, site: Site) -> Step
+    requires form { IsForm (IsOperator operator) scripts.now site.script node }
     ensures step { Waits scripts.now result (λ at s. operation (Some operator) scripts.now at ((form_at scripts.now site.script node).kids) site s) }
     ensures sound { (s : Store) → IsSoundSite s site → IsSoundStep s result }
+    ensures fits { StepFits scripts.now result }
 {
     match operator {
         Operator::Binary(operator) => begin_binary(scripts, operator, node, site),
@@ -49,12 +52,15 @@ fn begin_operator(scripts: &Scripts, operator: Operator, node: u32, site: Site) 
 }
 
 /// Begins an expression by an expression inside it; a form that is none is empty.
+#[tactic(auto, using(crate::proofs::FitLemmas::kinds_known))]
 #[inline(always)]
 fn begin_inside(scripts: &Scripts, kind: Kind, node: u32, site: Site) -> Step
     requires kind { BeginsInside kind }
     requires itself { IsThere kind → ((form_at scripts.now site.script node).head).number_of_node ≡ node }
+    requires form { IsForm (Is kind) scripts.now site.script node }
     ensures step { Waits scripts.now result (λ at s. value_by kind scripts.now at (form_at scripts.now site.script node) site s) }
     ensures sound { (s : Store) → IsSoundSite s site → IsSoundStep s result }
+    ensures fits { StepFits scripts.now result }
 {
     if let Some(operator) = Operator::of_kind(kind) {
         return begin_operator(scripts, operator, node, site);
@@ -85,12 +91,14 @@ fn begin_value(
     requires closed { IsClosed heap.old }
     requires site { IsSoundSite heap.old site }
     requires itself { IsThere kind → ((form_at scripts.now site.script node).head).number_of_node ≡ node }
+    requires form { IsForm (Is kind) scripts.now site.script node }
 
     ensures step { Steps scripts.now result heap.old heap.new (λ at s. value_by kind scripts.now at (form_at scripts.now site.script node) site s) }
 
     ensures grown { Grows heap.old heap.new }
     ensures closed { IsClosed heap.new }
     ensures sound { IsSoundStep heap.new result }
+    ensures fits { StepFits scripts.now result }
 {
     match kind {
         Kind::Num
@@ -122,12 +130,14 @@ fn begin_callee(
     requires closed { IsClosed heap.old }
     requires site { IsSoundSite heap.old site }
     requires itself { IsThere kind → ((form_at scripts.now site.script node).head).number_of_node ≡ node }
+    requires form { IsForm (Is kind) scripts.now site.script node }
 
     ensures step { Steps scripts.now result heap.old heap.new (λ at s. callee_by kind scripts.now at (form_at scripts.now site.script node) site s) }
 
     ensures grown { Grows heap.old heap.new }
     ensures closed { IsClosed heap.new }
     ensures sound { IsSoundStep heap.new result }
+    ensures fits { StepFits scripts.now result }
 {
     match kind {
         Kind::Member => begin_member(scripts, Role::Callee, node, site),
@@ -144,12 +154,14 @@ fn begin_callee(
 fn begin_expression(scripts: &Scripts, node: u32, site: Site) -> Step
     ensures step { Waits scripts.now result (λ at s. statement_by Kind.ExprStmt at (form_at scripts.now site.script node) site s) }
     ensures sound { (s : Store) → IsSoundSite s site → IsSoundStep s result }
+    ensures fits { StepFits scripts.now result }
 {
     let expression = kid_at(scripts, site.script, node, 0);
     Step::value(Frame::Pass, expression, site)
 }
 
 /// Begins a statement; a form that is none is empty.
+#[tactic(auto, using(crate::proofs::FitLemmas::kinds_known))]
 #[inline(always)]
 fn begin_statement(
     alloc: Global,
@@ -161,12 +173,14 @@ fn begin_statement(
 ) -> Step
     requires closed { IsClosed heap.old }
     requires site { IsSoundSite heap.old site }
+    requires form { IsForm (Is kind) scripts.now site.script node }
 
     ensures step { Turns scripts.now result heap.old heap.new (λ at s. statement_by kind at (form_at scripts.now site.script node) site s) }
 
     ensures grown { Grows heap.old heap.new }
     ensures closed { IsClosed heap.new }
     ensures sound { IsSoundStep heap.new result }
+    ensures fits { StepFits scripts.now result }
 {
     match kind {
         Kind::Script | Kind::Body => list_from(scripts, node, 0, None, site),
@@ -202,6 +216,7 @@ pub fn begin(alloc: Global, scripts: &Scripts, heap: &mut Heap, inner: Inner) ->
     ensures grown { Grows heap.old heap.new }
     ensures closed { IsClosed heap.new }
     ensures sound { IsSoundStep heap.new result }
+    ensures fits { StepFits scripts.now result }
 {
     let Inner { role, node, site } = inner;
     let kind = kind_at(scripts, site.script, node);

@@ -11,6 +11,7 @@ ghost use Rattle.script_meaning.specs.Functions.{is_body, this_of, body_declares
 ghost use Rattle.script_meaning.specs.Places.{form_at};
 ghost use Rattle.script_steps.specs.After.{after, Steps, Waits};
 ghost use Rattle.script_steps.specs.Called.{closure_of, closure_call};
+ghost use Rattle.script_steps.specs.Fits.{StepFits};
 ghost use Rattle.script_steps.specs.Sound.{IsSoundEnd, IsSoundSite, IsSoundStep};
 
 use crate::builtins::refuse_call;
@@ -121,6 +122,7 @@ fn scope_of_call(
 fn begin_body(scripts: &Scripts, body: u32, site: Site) -> Step
     ensures step { Waits scripts.now result (λ at s. body_rule (is_body ((form_at scripts.now site.script body).head).kind) at (form_at scripts.now site.script body) site s) }
     ensures sound { (s : Store) → IsSoundSite s site → IsSoundStep s result }
+    ensures fits { StepFits scripts.now result }
 {
     match kind_at(scripts, site.script, body) {
         Kind::Body => Step::statement(Frame::Body, body, site),
@@ -147,6 +149,7 @@ fn enter(
     ensures grown { Grows heap.old heap.new }
     ensures closed { IsClosed heap.old → IsClosed heap.new }
     ensures sound { IsSoundStep heap.new result }
+    ensures fits { StepFits scripts.now result }
 {
     let body = kid_at(scripts, site.script, node, 0);
     match scope_of_call(alloc, scripts, heap, node, site, arguments) {
@@ -176,6 +179,7 @@ fn call_closure(
     ensures grown { Grows heap.old heap.new }
     ensures closed { IsClosed heap.old → IsClosed heap.new }
     ensures sound { IsSoundStep heap.new result }
+    ensures fits { StepFits scripts.now result }
 {
     let kind = kind_at(scripts, site.script, node);
     let receiver = this_of(kind, site.receiver, receiver);
@@ -210,6 +214,7 @@ fn call_item(
     ensures grown { Grows heap.old heap.new }
     ensures closed { IsClosed heap.new }
     ensures sound { IsSoundStep heap.new result }
+    ensures fits { StepFits scripts.now result }
 {
     match closure_at(heap, n) {
         Some((node, site)) => {
@@ -243,6 +248,7 @@ pub(crate) fn call(
     ensures grown { Grows heap.old heap.new }
     ensures closed { IsClosed heap.new }
     ensures sound { IsSoundStep heap.new result }
+    ensures fits { StepFits scripts.now result }
 {
     match function {
         Value::Builtin(which) => Step::Builtin {
@@ -263,6 +269,7 @@ pub(crate) fn call(
 pub(crate) fn body(scripts: &Scripts, end: Result<Ended, Abrupt>) -> Step
     ensures step { Waits scripts.now result (λ at s. after at scripts.now Frame.Body (end, s)) }
     ensures sound { (s : Store) → IsSoundEnd s end → IsSoundStep s result }
+    ensures fits { StepFits scripts.now result }
 {
     let _ = scripts;
     match end {

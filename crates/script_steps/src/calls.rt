@@ -4,10 +4,12 @@ ghost use Rattle.charged_heap.specs.Closed.{IsClosed, IsSoundValue};
 ghost use Rattle.charged_heap.specs.Growth.{Grows};
 ghost use Rattle.charged_heap.specs.Store.{Store};
 ghost use Rattle.js_trees.specs.Tree.{kids_from};
+ghost use Rattle.js_syntax.specs.declared.kind.Kind.TheVariants as kinds;
 ghost use Rattle.script_meaning.specs.Expressions.{arguments_rule, called_rule};
 ghost use Rattle.script_meaning.specs.Functions.{call_rule};
 ghost use Rattle.script_meaning.specs.Places.{form_at};
 ghost use Rattle.script_steps.specs.After.{after, Steps, Waits};
+ghost use Rattle.script_steps.specs.Fits.{Is, IsForm, StepFits};
 ghost use Rattle.script_steps.specs.Sound.{IsSoundCall, IsSoundSite, IsSoundStep};
 
 use crate::called::call;
@@ -22,8 +24,10 @@ use std::alloc::Global;
 #[tactic(auto, unfolding(crate::specs::After::after, script_meaning::specs::Expressions::called_rule))]
 #[inline(always)]
 pub(crate) fn begin_call(scripts: &Scripts, node: u32, site: Site) -> Step
+    requires form { IsForm (Is kinds.Call) scripts.now site.script node }
     ensures step { Waits scripts.now result (λ at s. called_rule scripts.now at ((form_at scripts.now site.script node).kids) site s) }
     ensures sound { (s : Store) → IsSoundSite s site → IsSoundStep s result }
+    ensures fits { StepFits scripts.now result }
 {
     let callee = kid_at(scripts, site.script, node, 0);
     Step::Into {
@@ -52,12 +56,14 @@ fn arguments_from(
 ) -> Step
     requires closed { IsClosed heap.old }
     requires call { IsSoundCall heap.old function receiver values site }
+    requires form { IsForm (Is kinds.Call) scripts.now site.script node }
 
     ensures step { Steps scripts.now result heap.old heap.new (λ at s. arguments_rule at (kids_from place ((form_at scripts.now site.script node).kids)) site values (λ arguments s. call_rule at scripts.now function receiver arguments s) s) }
 
     ensures grown { Grows heap.old heap.new }
     ensures closed { IsClosed heap.new }
     ensures sound { IsSoundStep heap.new result }
+    ensures fits { StepFits scripts.now result }
 {
     if place < kid_count_at(scripts, site.script, node) {
         let part = kid_at(scripts, site.script, node, place);
@@ -90,12 +96,14 @@ fn arguments_behind(
 ) -> Step
     requires closed { IsClosed heap.old }
     requires call { IsSoundCall heap.old function receiver values site }
+    requires form { IsForm (Is kinds.Call) scripts.now site.script node }
 
     ensures step { Steps scripts.now result heap.old heap.new (λ at s. arguments_rule at (kids_from (suc place) ((form_at scripts.now site.script node).kids)) site values (λ arguments s. call_rule at scripts.now function receiver arguments s) s) }
 
     ensures grown { Grows heap.old heap.new }
     ensures closed { IsClosed heap.new }
     ensures sound { IsSoundStep heap.new result }
+    ensures fits { StepFits scripts.now result }
 {
     if place < kid_count_at(scripts, site.script, node) {
         return arguments_from(
@@ -129,12 +137,14 @@ pub(crate) fn callee_member(
     requires site { IsSoundSite heap.old site }
     requires function { IsSoundValue heap.old function }
     requires receiver { IsSoundValue heap.old receiver }
+    requires form { IsForm (Is kinds.Call) scripts.now site.script node }
 
     ensures step { Steps scripts.now result heap.old heap.new (λ at s. after at scripts.now (Frame.Callee node site) (Ok (Ended.Member function receiver), s)) }
 
     ensures grown { Grows heap.old heap.new }
     ensures closed { IsClosed heap.new }
     ensures sound { IsSoundStep heap.new result }
+    ensures fits { StepFits scripts.now result }
 {
     let values = Values::new(alloc);
     arguments_from(
@@ -156,12 +166,14 @@ pub(crate) fn callee(
     requires closed { IsClosed heap.old }
     requires site { IsSoundSite heap.old site }
     requires function { IsSoundValue heap.old function }
+    requires form { IsForm (Is kinds.Call) scripts.now site.script node }
 
     ensures step { Steps scripts.now result heap.old heap.new (λ at s. after at scripts.now (Frame.Callee node site) (Ok (Ended.Value function), s)) }
 
     ensures grown { Grows heap.old heap.new }
     ensures closed { IsClosed heap.new }
     ensures sound { IsSoundStep heap.new result }
+    ensures fits { StepFits scripts.now result }
 {
     callee_member(alloc, scripts, heap, node, site, function, Value::Undefined)
 }
@@ -184,12 +196,14 @@ pub(crate) fn argument(
     requires closed { IsClosed heap.old }
     requires call { IsSoundCall heap.old function receiver values site }
     requires value { IsSoundValue heap.old value }
+    requires form { IsForm (Is kinds.Call) scripts.now site.script node }
 
     ensures step { Steps scripts.now result heap.old heap.new (λ at s. after at scripts.now (Frame.Argument node place function receiver values site) (Ok (Ended.Value value), s)) }
 
     ensures grown { Grows heap.old heap.new }
     ensures closed { IsClosed heap.new }
     ensures sound { IsSoundStep heap.new result }
+    ensures fits { StepFits scripts.now result }
 {
     match values.push(value) {
         Ok(()) => arguments_behind(

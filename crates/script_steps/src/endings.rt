@@ -6,6 +6,7 @@ ghost use Rattle.js_trees.specs.Tree.{kids_from};
 ghost use Rattle.script_meaning.specs.Statements.{list_rule, value_in};
 ghost use Rattle.script_meaning.specs.Places.{form_at};
 ghost use Rattle.script_steps.specs.After.{after, Waits};
+ghost use Rattle.script_steps.specs.Fits.{IsForm, IsList, StepFits};
 ghost use Rattle.script_steps.specs.Sound.{IsSoundEnd, IsSoundEnded, IsSoundSite, IsSoundStep};
 
 use crate::forms::kid_count_at;
@@ -30,8 +31,10 @@ pub(crate) fn value_in(end: Ended) -> Option<Value>
 #[tactic(auto, unfolding(script_meaning::specs::Statements::list_rule), using(js_trees::proofs::PartLemmas::parts_from))]
 #[inline(always)]
 fn list_behind(scripts: &Scripts, node: u32, place: u32, last: Option<Value>, site: Site) -> Step
+    requires form { IsForm IsList scripts.now site.script node }
     ensures step { Waits scripts.now result (λ at s. list_rule at (kids_from (suc place) ((form_at scripts.now site.script node).kids)) site last s) }
     ensures sound { (s : Store) → IsSoundSite s site → IfSome last (IsSoundValue s) → IsSoundStep s result }
+    ensures fits { StepFits scripts.now result }
 {
     if place < kid_count_at(scripts, site.script, node) {
         return list_from(scripts, node, place + 1, last, site);
@@ -50,8 +53,10 @@ pub(crate) fn list(
     site: Site,
     end: Result<Ended, Abrupt>,
 ) -> Step
+    requires form { IsForm IsList scripts.now site.script node }
     ensures step { Waits scripts.now result (λ at s. after at scripts.now (Frame.List node place last site) (end, s)) }
     ensures sound { (s : Store) → IsSoundSite s site → IfSome last (IsSoundValue s) → IsSoundEnd s end → IsSoundStep s result }
+    ensures fits { StepFits scripts.now result }
 {
     match end {
         Ok(end) => list_behind(scripts, node, place, latest(value_in(end), last), site),
@@ -67,6 +72,7 @@ pub(crate) fn list(
 pub(crate) fn filled(scripts: &Scripts, end: Result<Ended, Abrupt>) -> Step
     ensures step { Waits scripts.now result (λ at s. after at scripts.now Frame.Filled (end, s)) }
     ensures sound { (s : Store) → IsSoundEnd s end → IsSoundStep s result }
+    ensures fits { StepFits scripts.now result }
 {
     let _ = scripts;
     match end {

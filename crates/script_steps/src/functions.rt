@@ -8,6 +8,7 @@ ghost use Rattle.script_meaning.specs.Expressions.{closure_made, function_by, fu
 ghost use Rattle.script_meaning.specs.Places.{ScriptList, form_at};
 ghost use Rattle.script_steps.specs.After.{Steps};
 ghost use Rattle.script_steps.specs.Ends.{end_of};
+ghost use Rattle.script_steps.specs.Fits.{StepFits};
 ghost use Rattle.script_steps.specs.Sound.{IsSoundSite, IsSoundStep};
 
 use crate::Step;
@@ -51,6 +52,7 @@ pub(crate) fn arrow(scripts: &Scripts, heap: &mut Heap, node: u32, site: Site) -
     ensures grown { Grows heap.old heap.new }
     ensures closed { IsClosed heap.old → IsClosed heap.new }
     ensures sound { IsSoundStep heap.new result }
+    ensures fits { StepFits scripts.now result }
 {
     let _ = scripts;
     of_heap(make_closure(heap, node, site, site.receiver))
@@ -98,6 +100,7 @@ pub(crate) fn function(
     ensures grown { Grows heap.old heap.new }
     ensures closed { IsClosed heap.old → IsClosed heap.new }
     ensures sound { IsSoundStep heap.new result }
+    ensures fits { StepFits scripts.now result }
 {
     match name_at(scripts, site.script, node) {
         Some(name) => of_heap(make_named(alloc, heap, node, site, name)),

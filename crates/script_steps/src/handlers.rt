@@ -7,6 +7,7 @@ ghost use Rattle.js_trees.specs.Tree.{kid};
 ghost use Rattle.script_meaning.specs.Handlers.{handler_by, throw_rule, try_end, try_rule};
 ghost use Rattle.script_meaning.specs.Places.{form_at};
 ghost use Rattle.script_steps.specs.After.{after, Steps, Waits};
+ghost use Rattle.script_steps.specs.Fits.{Is, IsForm, StepFits};
 ghost use Rattle.script_steps.specs.Sound.{IsSoundEnd, IsSoundSite, IsSoundStep};
 
 use crate::endings::filled;
@@ -23,6 +24,7 @@ use std::alloc::Global;
 pub(crate) fn begin_throw(scripts: &Scripts, node: u32, site: Site) -> Step
     ensures step { Waits scripts.now result (λ at s. throw_rule at ((form_at scripts.now site.script node).kids) site s) }
     ensures sound { (s : Store) → IsSoundSite s site → IsSoundStep s result }
+    ensures fits { StepFits scripts.now result }
 {
     let value = kid_at(scripts, site.script, node, 0);
     Step::value(Frame::Throw, value, site)
@@ -32,8 +34,10 @@ pub(crate) fn begin_throw(scripts: &Scripts, node: u32, site: Site) -> Step
 #[tactic(auto, unfolding(crate::specs::After::after, script_meaning::specs::Handlers::try_rule))]
 #[inline(always)]
 pub(crate) fn begin_try(scripts: &Scripts, node: u32, site: Site) -> Step
+    requires form { IsForm (Is Kind.Try) scripts.now site.script node }
     ensures step { Waits scripts.now result (λ at s. try_rule at (form_at scripts.now site.script node) site s) }
     ensures sound { (s : Store) → IsSoundSite s site → IsSoundStep s result }
+    ensures fits { StepFits scripts.now result }
 {
     let block = kid_at(scripts, site.script, node, 0);
     Step::statement(Frame::Try { node, site }, block, site)
@@ -44,8 +48,10 @@ pub(crate) fn begin_try(scripts: &Scripts, node: u32, site: Site) -> Step
 #[tactic(auto, unfolding(crate::specs::After::after))]
 #[inline(always)]
 pub(crate) fn finish(scripts: &Scripts, node: u32, site: Site, end: Result<Ended, Abrupt>) -> Step
+    requires form { IsForm (Is Kind.Try) scripts.now site.script node }
     ensures step { Waits scripts.now result (λ at s. after at scripts.now (Frame.Catch node site) (end, s)) }
     ensures sound { (s : Store) → IsSoundSite s site → IsSoundEnd s end → IsSoundStep s result }
+    ensures fits { StepFits scripts.now result }
 {
     let finalizer = kid_at(scripts, site.script, node, 2);
     match kind_at(scripts, site.script, finalizer) {
@@ -71,12 +77,14 @@ fn handle(
 ) -> Step
     requires site { IsSoundSite heap.old site }
     requires thrown { IsSoundValue heap.old thrown }
+    requires form { IsForm (Is Kind.Try) scripts.now site.script node }
 
     ensures step { Steps scripts.now result heap.old heap.new (λ at s. try_end at (form_at scripts.now site.script node) site (handler_by ((form_at scripts.now site.script node).head).name at (kid 1 ((form_at scripts.now site.script node).kids)) site thrown s)) }
 
     ensures grown { Grows heap.old heap.new }
     ensures closed { IsClosed heap.old → IsClosed heap.new }
     ensures sound { IsSoundStep heap.new result }
+    ensures fits { StepFits scripts.now result }
 {
     let handler = kid_at(scripts, site.script, node, 1);
     let Some(name) = name_at(scripts, site.script, node) else {
@@ -109,12 +117,14 @@ pub(crate) fn tried(
 ) -> Step
     requires site { IsSoundSite heap.old site }
     requires end { IsSoundEnd heap.old end }
+    requires form { IsForm (Is Kind.Try) scripts.now site.script node }
 
     ensures step { Steps scripts.now result heap.old heap.new (λ at s. after at scripts.now (Frame.Try node site) (end, s)) }
 
     ensures grown { Grows heap.old heap.new }
     ensures closed { IsClosed heap.old → IsClosed heap.new }
     ensures sound { IsSoundStep heap.new result }
+    ensures fits { StepFits scripts.now result }
 {
     let handler = kid_at(scripts, site.script, node, 1);
     match kind_at(scripts, site.script, handler) {
@@ -136,6 +146,7 @@ pub(crate) fn finished(
 ) -> Step
     ensures step { Waits scripts.now result (λ at s. after at scripts.now (Frame.Finally before) (end, s)) }
     ensures sound { (s : Store) → IsSoundEnd s before → IsSoundEnd s end → IsSoundStep s result }
+    ensures fits { StepFits scripts.now result }
 {
     match end {
         Ok(_) => filled(scripts, before),

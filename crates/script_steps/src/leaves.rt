@@ -7,6 +7,7 @@ ghost use Rattle.js_ops.specs.Outcome.{text_made};
 ghost use Rattle.script_meaning.specs.Evaluates.{value_by};
 ghost use Rattle.script_meaning.specs.Places.{form_at, name_at};
 ghost use Rattle.script_steps.specs.After.{Steps};
+ghost use Rattle.script_steps.specs.Fits.{StepFits};
 ghost use Rattle.script_steps.specs.Leaves.{IsLeaf};
 ghost use Rattle.script_steps.specs.Sound.{IsSoundSite, IsSoundStep};
 
@@ -51,6 +52,7 @@ fn text(alloc: Global, scripts: &Scripts, heap: &mut Heap, node: u32, site: Site
     ensures grown { Grows heap.old heap.new }
     ensures closed { IsClosed heap.old → IsClosed heap.new }
     ensures sound { IsSoundStep heap.new result }
+    ensures fits { StepFits scripts.now result }
 {
     of_heap(make_literal(alloc, scripts, heap, site.script, node))
 }
@@ -65,6 +67,7 @@ fn name(alloc: Global, scripts: &Scripts, heap: &mut Heap, node: u32, site: Site
     ensures grown { Grows heap.old heap.new }
     ensures closed { IsClosed heap.new }
     ensures sound { IsSoundStep heap.new result }
+    ensures fits { StepFits scripts.now result }
 {
     of_heap(read_place(alloc, scripts, heap, site, Place::Name(node)))
 }
@@ -86,6 +89,7 @@ pub(crate) fn leaf(
     ensures grown { Grows heap.old heap.new }
     ensures closed { IsClosed heap.new }
     ensures sound { IsSoundStep heap.new result }
+    ensures fits { StepFits scripts.now result }
 {
     match kind {
         Kind::Num => gives(Value::Num(number_at(scripts, site.script, node))),

@@ -7,9 +7,11 @@ ghost use Rattle.js_members.specs.Arrays.{pushed};
 ghost use Rattle.js_members.specs.Writes.{write_outcome};
 ghost use Rattle.js_trees.specs.Tree.{kid_count, kids_from};
 ghost use Rattle.charged_heap.specs.Ends.{IsSoundFail, Meets, item_made, IsSoundResult};
+ghost use Rattle.js_syntax.specs.declared.kind.Kind.TheVariants as kinds;
 ghost use Rattle.script_meaning.specs.Expressions.{array_rule, elements_rule, object_rule, properties_rule};
 ghost use Rattle.script_meaning.specs.Places.{form_at};
 ghost use Rattle.script_steps.specs.After.{after, Steps, Waits};
+ghost use Rattle.script_steps.specs.Fits.{Is, IsForm, StepFits};
 ghost use Rattle.script_steps.specs.Sound.{IsSoundSite, IsSoundStep};
 
 use crate::ends::abrupt_of;
@@ -27,8 +29,10 @@ use std::alloc::Global;
 #[tactic(auto, unfolding(crate::specs::After::after, script_meaning::specs::Expressions::elements_rule), using(js_trees::proofs::PartLemmas::parts_from, crate::proofs::CallLemmas::array_held))]
 #[inline(always)]
 fn elements_from(scripts: &Scripts, node: u32, place: u32, array: u32, site: Site) -> Step
+    requires form { IsForm (Is kinds.Array) scripts.now site.script node }
     ensures step { Waits scripts.now result (λ at s. elements_rule at array (kids_from place ((form_at scripts.now site.script node).kids)) site s) }
     ensures sound { (s : Store) → IsAt IsArray s array → IsSoundSite s site → IsSoundStep s result }
+    ensures fits { StepFits scripts.now result }
 {
     if place < kid_count_at(scripts, site.script, node) {
         let element = kid_at(scripts, site.script, node, place);
@@ -47,8 +51,10 @@ fn elements_from(scripts: &Scripts, node: u32, place: u32, array: u32, site: Sit
 #[tactic(auto, using(js_trees::proofs::PartLemmas::parts_from, crate::proofs::CallLemmas::array_held), unfolding(script_meaning::specs::Expressions::elements_rule))]
 #[inline(always)]
 fn elements_behind(scripts: &Scripts, node: u32, place: u32, array: u32, site: Site) -> Step
+    requires form { IsForm (Is kinds.Array) scripts.now site.script node }
     ensures step { Waits scripts.now result (λ at s. elements_rule at array (kids_from (suc place) ((form_at scripts.now site.script node).kids)) site s) }
     ensures sound { (s : Store) → IsAt IsArray s array → IsSoundSite s site → IsSoundStep s result }
+    ensures fits { StepFits scripts.now result }
 {
     if place < kid_count_at(scripts, site.script, node) {
         return elements_from(scripts, node, place + 1, array, site);
@@ -87,12 +93,14 @@ pub(crate) fn element(
     requires array { IsAt IsArray heap.old array }
     requires site { IsSoundSite heap.old site }
     requires value { IsSoundValue heap.old value }
+    requires form { IsForm (Is kinds.Array) scripts.now site.script node }
 
     ensures step { Steps scripts.now result heap.old heap.new (λ at s. after at scripts.now (Frame.Element node place array site) (Ok (Ended.Value value), s)) }
 
     ensures grown { Grows heap.old heap.new }
     ensures closed { IsClosed heap.old → IsClosed heap.new }
     ensures sound { IsSoundStep heap.new result }
+    ensures fits { StepFits scripts.now result }
 {
     match add_element(alloc, heap, array, value) {
         Ok(_) => elements_behind(scripts, node, place, array, site),
@@ -110,13 +118,15 @@ pub(crate) fn begin_array(
     node: u32,
     site: Site,
 ) -> Step
-    requires { IsSoundSite heap.old site }
+    requires site { IsSoundSite heap.old site }
+    requires form { IsForm (Is kinds.Array) scripts.now site.script node }
 
     ensures step { Steps scripts.now result heap.old heap.new (λ at s. array_rule at ((form_at scripts.now site.script node).kids) site s) }
 
     ensures grown { Grows heap.old heap.new }
     ensures closed { IsClosed heap.old → IsClosed heap.new }
     ensures sound { IsSoundStep heap.new result }
+    ensures fits { StepFits scripts.now result }
 {
     match make(heap, Item::Array(Values::new(alloc))) {
         Ok(array) => elements_from(scripts, node, 0, array, site),
@@ -143,8 +153,10 @@ fn property_count(scripts: &Scripts, script: u32, node: u32) -> u32
 #[tactic(auto, using(crate::proofs::CallLemmas::plain_held, crate::proofs::CallLemmas::properties_end))]
 #[inline(always)]
 fn properties_from(scripts: &Scripts, node: u32, place: u32, object: u32, site: Site) -> Step
+    requires form { IsForm (Is kinds.Object) scripts.now site.script node }
     ensures step { Waits scripts.now result (λ at s. properties_rule at object (drop place ((form_at scripts.now site.script node).head).names) (kids_from place ((form_at scripts.now site.script node).kids)) site s) }
     ensures sound { (s : Store) → IsAt IsPlain s object → IsSoundSite s site → IsSoundStep s result }
+    ensures fits { StepFits scripts.now result }
 {
     if place < property_count(scripts, site.script, node) {
         let part = kid_at(scripts, site.script, node, place);
@@ -163,8 +175,10 @@ fn properties_from(scripts: &Scripts, node: u32, place: u32, object: u32, site: 
 #[tactic(auto, using(crate::proofs::CallLemmas::plain_held, crate::proofs::CallLemmas::properties_ended))]
 #[inline(always)]
 fn properties_behind(scripts: &Scripts, node: u32, place: u32, object: u32, site: Site) -> Step
+    requires form { IsForm (Is kinds.Object) scripts.now site.script node }
     ensures step { Waits scripts.now result (λ at s. properties_rule at object (drop (suc place) ((form_at scripts.now site.script node).head).names) (kids_from (suc place) ((form_at scripts.now site.script node).kids)) site s) }
     ensures sound { (s : Store) → IsAt IsPlain s object → IsSoundSite s site → IsSoundStep s result }
+    ensures fits { StepFits scripts.now result }
 {
     if place < property_count(scripts, site.script, node) {
         return properties_from(scripts, node, place + 1, object, site);
@@ -213,12 +227,14 @@ pub(crate) fn property(
     requires object { IsAt IsPlain heap.old object }
     requires site { IsSoundSite heap.old site }
     requires value { IsSoundValue heap.old value }
+    requires form { IsForm (Is kinds.Object) scripts.now site.script node }
 
     ensures step { Steps scripts.now result heap.old heap.new (λ at s. after at scripts.now (Frame.Property node place object site) (Ok (Ended.Value value), s)) }
 
     ensures grown { Grows heap.old heap.new }
     ensures closed { IsClosed heap.old → IsClosed heap.new }
     ensures sound { IsSoundStep heap.new result }
+    ensures fits { StepFits scripts.now result }
 {
     let names = names_at(scripts, site.script, node);
     match add_property(alloc, heap, names, place, object, value) {
@@ -250,13 +266,15 @@ pub(crate) fn begin_object(
     node: u32,
     site: Site,
 ) -> Step
-    requires { IsSoundSite heap.old site }
+    requires site { IsSoundSite heap.old site }
+    requires form { IsForm (Is kinds.Object) scripts.now site.script node }
 
     ensures step { Steps scripts.now result heap.old heap.new (λ at s. object_rule at (form_at scripts.now site.script node) site s) }
 
     ensures grown { Grows heap.old heap.new }
     ensures closed { IsClosed heap.old → IsClosed heap.new }
     ensures sound { IsSoundStep heap.new result }
+    ensures fits { StepFits scripts.now result }
 {
     match make_object(alloc, heap) {
         Ok(object) => properties_from(scripts, node, 0, object, site),

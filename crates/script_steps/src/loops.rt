@@ -10,6 +10,7 @@ ghost use Rattle.script_meaning.specs.Loops.{first_round, for_loop, for_rule, he
 ghost use Rattle.script_meaning.specs.Places.{form_at};
 ghost use Rattle.script_meaning.specs.Statements.{ended_with, or_undefined};
 ghost use Rattle.script_steps.specs.After.{after, Steps, Turns};
+ghost use Rattle.script_steps.specs.Fits.{AreLoopParts, Is, IsForm, StepFits};
 ghost use Rattle.script_steps.specs.Loops.{form_of, loop_of};
 ghost use Rattle.script_steps.specs.Sound.{IsSoundEnd, IsSoundSite, IsSoundStep};
 
@@ -30,8 +31,10 @@ use std::alloc::Global;
 #[tactic(auto, using(crate::proofs::LoopLemmas::turns))]
 #[inline(always)]
 fn begin_round(scripts: &Scripts, parts: LoopParts, last: Option<Value>, site: Site) -> Step
+    requires fits { AreLoopParts scripts.now site.script parts }
     ensures step { (s : Store) → Turns scripts.now result s s (λ at s. loop_rule at (loop_of scripts.now site.script parts) last site s) }
     ensures sound { (s : Store) → IsSoundSite s site → IfSome last (IsSoundValue s) → IsSoundStep s result }
+    ensures fits { StepFits scripts.now result }
 {
     let _ = scripts;
     match parts.test {
@@ -60,10 +63,12 @@ pub(crate) fn loop_tested(
     site: Site,
     value: Value,
 ) -> Step
-    requires { IsSoundValue heap.now value }
+    requires value { IsSoundValue heap.now value }
+    requires fits { AreLoopParts scripts.now site.script parts }
 
     ensures step { Steps scripts.now result heap.now heap.now (λ at s. after at scripts.now (Frame.LoopTest parts last site) (Ok (Ended.Value value), s)) }
     ensures sound { IsSoundSite heap.now site → IfSome last (IsSoundValue heap.now) → IsSoundStep heap.now result }
+    ensures fits { StepFits scripts.now result }
 {
     let _ = scripts;
     if truthy(heap, value) {
@@ -110,7 +115,7 @@ fn round_site(alloc: Global, heap: &mut Heap, fresh: bool, site: Site) -> Result
 }
 
 /// Goes on from a round's body to the next round: by the update, where there is one.
-#[tactic(auto, unfolding(crate::specs::After::after), using(crate::proofs::Growing::growing))]
+#[tactic(auto, unfolding(crate::specs::After::after), using(crate::proofs::FitLemmas::loops, crate::proofs::Growing::growing))]
 #[inline(always)]
 fn next_round(
     alloc: Global,
@@ -123,12 +128,14 @@ fn next_round(
     requires closed { IsClosed heap.old }
     requires site { IsSoundSite heap.old site }
     requires last { IfSome last (IsSoundValue heap.old) }
+    requires fits { AreLoopParts scripts.now site.script parts }
 
     ensures step { Turns scripts.now result heap.old heap.new (λ at s. to_next at (loop_of scripts.now site.script parts) site s (λ inside s. loop_rule at (loop_of scripts.now site.script parts) last inside s)) }
 
     ensures grown { Grows heap.old heap.new }
     ensures closed { IsClosed heap.new }
     ensures sound { IsSoundStep heap.new result }
+    ensures fits { StepFits scripts.now result }
 {
     let inside = match round_site(alloc, heap, parts.fresh, site) {
         Ok(inside) => inside,
@@ -163,12 +170,14 @@ pub(crate) fn loop_body(
     requires site { IsSoundSite heap.old site }
     requires last { IfSome last (IsSoundValue heap.old) }
     requires end { IsSoundEnd heap.old end }
+    requires fits { AreLoopParts scripts.now site.script parts }
 
     ensures step { Turns scripts.now result heap.old heap.new (λ at s. after at scripts.now (Frame.LoopBody parts last site) (end, s)) }
 
     ensures grown { Grows heap.old heap.new }
     ensures closed { IsClosed heap.new }
     ensures sound { IsSoundStep heap.new result }
+    ensures fits { StepFits scripts.now result }
 {
     match end {
         Ok(end) => {
@@ -194,8 +203,10 @@ pub(crate) fn loop_updated(
     site: Site,
     value: Value,
 ) -> Step
+    requires fits { AreLoopParts scripts.now site.script parts }
     ensures step { (s : Store) → Turns scripts.now result s s (λ at s. after at scripts.now (Frame.LoopUpdate parts last site) (Ok (Ended.Value value), s)) }
     ensures sound { (s : Store) → IsSoundSite s site → IfSome last (IsSoundValue s) → IsSoundStep s result }
+    ensures fits { StepFits scripts.now result }
 {
     let _ = value;
     begin_round(scripts, parts, last, site)
@@ -204,11 +215,13 @@ pub(crate) fn loop_updated(
 // ---- beginnings
 
 /// Begins `while`.
-#[tactic(auto, unfolding(script_meaning::specs::Loops::while_rule))]
+#[tactic(auto, unfolding(script_meaning::specs::Loops::while_rule), using(crate::proofs::FitLemmas::loops))]
 #[inline(always)]
 pub(crate) fn begin_while(scripts: &Scripts, node: u32, site: Site) -> Step
+    requires form { IsForm (Is Kind.While) scripts.now site.script node }
     ensures step { (s : Store) → Turns scripts.now result s s (λ at s. while_rule at ((form_at scripts.now site.script node).kids) site s) }
     ensures sound { (s : Store) → IsSoundSite s site → IsSoundStep s result }
+    ensures fits { StepFits scripts.now result }
 {
     let test = kid_at(scripts, site.script, node, 0);
     let body = kid_at(scripts, site.script, node, 1);
@@ -223,7 +236,8 @@ pub(crate) fn begin_while(scripts: &Scripts, node: u32, site: Site) -> Step
 
 /// A part that may be left out.
 fn part_at(scripts: &Scripts, script: u32, node: u32, place: u32) -> Option<u32>
-    ensures { form_of scripts.now script result ≡ part (kid place ((form_at scripts.now script node).kids)) }
+    ensures form { form_of scripts.now script result ≡ part (kid place ((form_at scripts.now script node).kids)) }
+    ensures part { IfSome result (λ n. form_at scripts.now script n ≡ kid place ((form_at scripts.now script node).kids)) }
 {
     let part = kid_at(scripts, script, node, place);
     match kind_at(scripts, script, part) {
@@ -240,8 +254,11 @@ fn is_fresh(kind: Kind) -> bool
 }
 
 /// The parts of a `for`.
+#[tactic(auto, using(crate::proofs::FitLemmas::loops))]
 fn for_parts(scripts: &Scripts, script: u32, node: u32) -> LoopParts
-    ensures { loop_of scripts.now script result ≡ for_loop ((form_at scripts.now script node).kids) }
+    requires { IsForm (Is Kind.For) scripts.now script node }
+    ensures parts { loop_of scripts.now script result ≡ for_loop ((form_at scripts.now script node).kids) }
+    ensures fits { AreLoopParts scripts.now script result }
 {
     let head = kid_at(scripts, script, node, 0);
     LoopParts {
@@ -253,7 +270,7 @@ fn for_parts(scripts: &Scripts, script: u32, node: u32) -> LoopParts
 }
 
 /// Begins the first round of a `for`, in a scope of its own where each round has one.
-#[tactic(auto, using(crate::proofs::Growing::growing))]
+#[tactic(auto, using(crate::proofs::FitLemmas::loops, crate::proofs::Growing::growing))]
 #[inline(always)]
 fn begin_rounds(
     alloc: Global,
@@ -264,12 +281,14 @@ fn begin_rounds(
 ) -> Step
     requires closed { IsClosed heap.old }
     requires site { IsSoundSite heap.old site }
+    requires fits { AreLoopParts scripts.now site.script parts }
 
     ensures step { Turns scripts.now result heap.old heap.new (λ at s. first_round at (loop_of scripts.now site.script parts) site s) }
 
     ensures grown { Grows heap.old heap.new }
     ensures closed { IsClosed heap.new }
     ensures sound { IsSoundStep heap.new result }
+    ensures fits { StepFits scripts.now result }
 {
     match round_site(alloc, heap, parts.fresh, site) {
         Ok(inside) => begin_round(scripts, parts, None, inside),
@@ -291,12 +310,14 @@ pub(crate) fn loop_headed(
     requires closed { IsClosed heap.old }
     requires site { IsSoundSite heap.old site }
     requires end { IsSoundEnd heap.old end }
+    requires fits { AreLoopParts scripts.now site.script parts }
 
     ensures step { Turns scripts.now result heap.old heap.new (λ at s. after at scripts.now (Frame.ForHead parts site) (end, s)) }
 
     ensures grown { Grows heap.old heap.new }
     ensures closed { IsClosed heap.new }
     ensures sound { IsSoundStep heap.new result }
+    ensures fits { StepFits scripts.now result }
 {
     match end {
         Ok(_) => begin_rounds(alloc, scripts, heap, parts, site),
@@ -318,12 +339,14 @@ fn begin_head(
     requires parts { loop_of scripts.now site.script parts ≡ for_loop ((form_at scripts.now site.script node).kids) }
     requires closed { IsClosed heap.old }
     requires site { IsSoundSite heap.old site }
+    requires fits { AreLoopParts scripts.now site.script parts }
 
     ensures step { Turns scripts.now result heap.old heap.new (λ at s. headed at ((form_at scripts.now site.script node).kids) site s) }
 
     ensures grown { Grows heap.old heap.new }
     ensures closed { IsClosed heap.new }
     ensures sound { IsSoundStep heap.new result }
+    ensures fits { StepFits scripts.now result }
 {
     let head = kid_at(scripts, site.script, node, 0);
     match kind_at(scripts, site.script, head) {
@@ -345,12 +368,14 @@ pub(crate) fn begin_for(
 ) -> Step
     requires closed { IsClosed heap.old }
     requires site { IsSoundSite heap.old site }
+    requires form { IsForm (Is Kind.For) scripts.now site.script node }
 
     ensures step { Turns scripts.now result heap.old heap.new (λ at s. for_rule at ((form_at scripts.now site.script node).kids) site s) }
 
     ensures grown { Grows heap.old heap.new }
     ensures closed { IsClosed heap.new }
     ensures sound { IsSoundStep heap.new result }
+    ensures fits { StepFits scripts.now result }
 {
     let declared = match declarations_at(alloc, scripts, site.script, node) {
         Ok(declared) => declared,

@@ -4,10 +4,12 @@ ghost use Rattle.std.specs.Option.{unwrap_or};
 ghost use Rattle.charged_heap.specs.Closed.{IsClosed, IsSoundValue};
 ghost use Rattle.charged_heap.specs.Growth.{Grows};
 ghost use Rattle.charged_heap.specs.Store.{Store};
+ghost use Rattle.js_syntax.specs.declared.kind.Kind.TheVariants as kinds;
 ghost use Rattle.script_meaning.specs.Expressions.{member_rule, index_rule, computed_for};
 ghost use Rattle.script_meaning.specs.Places.{form_at, key_of};
 ghost use Rattle.script_steps.specs.After.{after, Steps, Waits};
 ghost use Rattle.script_steps.specs.Callees.{callee_end};
+ghost use Rattle.script_steps.specs.Fits.{Is, IsForm, StepFits};
 ghost use Rattle.script_steps.specs.Sound.{IsSoundSite, IsSoundStep, IsSoundPlace};
 
 use crate::ends::{abrupt_of, of_heap};
@@ -36,9 +38,11 @@ fn of_callee(given: Result<Value, Fail>, receiver: Value) -> Step
 #[tactic(auto, unfolding(crate::specs::After::after, script_meaning::specs::Expressions::member_rule))]
 #[inline(always)]
 pub(crate) fn begin_member(scripts: &Scripts, role: Role, node: u32, site: Site) -> Step
-    requires { ((form_at scripts.now site.script node).head).number_of_node ≡ node }
+    requires itself { ((form_at scripts.now site.script node).head).number_of_node ≡ node }
+    requires form { IsForm (Is kinds.Member) scripts.now site.script node }
     ensures step { Waits scripts.now result (λ at s. member_rule role at (form_at scripts.now site.script node) site s) }
     ensures sound { (s : Store) → IsSoundSite s site → IsSoundStep s result }
+    ensures fits { StepFits scripts.now result }
 {
     let object = kid_at(scripts, site.script, node, 0);
     let waiting = Frame::Member {
@@ -67,6 +71,7 @@ pub(crate) fn member(
     ensures grown { Grows heap.old heap.new }
     ensures closed { IsClosed heap.new }
     ensures sound { IsSoundStep heap.new result }
+    ensures fits { StepFits scripts.now result }
 {
     match role {
         Role::Target => Step::Ended(Ok(Ended::Place(Place::Member {
@@ -86,11 +91,13 @@ pub(crate) fn member(
 // ---- members by a key that is computed
 
 /// Begins `object[key]`.
-#[tactic(auto, unfolding(crate::specs::After::after, script_meaning::specs::Expressions::index_rule))]
+#[tactic(auto, unfolding(crate::specs::After::after, script_meaning::specs::Expressions::index_rule), using(crate::proofs::FitLemmas::fits))]
 #[inline(always)]
 pub(crate) fn begin_index(scripts: &Scripts, role: Role, node: u32, site: Site) -> Step
+    requires form { IsForm (Is kinds.Index) scripts.now site.script node }
     ensures step { Waits scripts.now result (λ at s. index_rule role at ((form_at scripts.now site.script node).kids) site s) }
     ensures sound { (s : Store) → IsSoundSite s site → IsSoundStep s result }
+    ensures fits { StepFits scripts.now result }
 {
     let object = kid_at(scripts, site.script, node, 0);
     let key = kid_at(scripts, site.script, node, 1);
@@ -109,6 +116,7 @@ pub(crate) fn index_object(
 ) -> Step
     ensures step { Waits scripts.now result (λ at s. after at scripts.now (Frame.IndexObject role key site) (Ok (Ended.Value object), s)) }
     ensures sound { (s : Store) → IsSoundSite s site → IsSoundValue s object → IsSoundStep s result }
+    ensures fits { StepFits scripts.now result }
 {
     let _ = scripts;
     Step::value(Frame::IndexKey { role, object }, key, site)
@@ -132,6 +140,7 @@ fn computed(
     ensures grown { Grows heap.old heap.new }
     ensures closed { IsClosed heap.new }
     ensures sound { IsSoundStep heap.new result }
+    ensures fits { StepFits scripts.now result }
 {
     let _ = scripts;
     match role {
@@ -162,6 +171,7 @@ pub(crate) fn index_key(
     ensures grown { Grows heap.old heap.new }
     ensures closed { IsClosed heap.new }
     ensures sound { IsSoundStep heap.new result }
+    ensures fits { StepFits scripts.now result }
 {
     if is_computed_key(heap, key) {
         computed(alloc, scripts, heap, role, object, key)
@@ -189,6 +199,7 @@ pub(crate) fn type_of(
     ensures grown { Grows heap.old heap.new }
     ensures closed { IsClosed heap.new }
     ensures sound { IsSoundStep heap.new result }
+    ensures fits { StepFits scripts.now result }
 {
     of_heap(type_of_place(alloc, scripts, heap, site, place))
 }

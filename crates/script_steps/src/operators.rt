@@ -3,9 +3,11 @@ ghost use Rattle.std.specs.Prelude.{◌≡◌, Ok};
 ghost use Rattle.charged_heap.specs.Closed.{IsClosed, IsSoundValue};
 ghost use Rattle.charged_heap.specs.Growth.{Grows};
 ghost use Rattle.charged_heap.specs.Store.{Store};
+ghost use Rattle.js_ops.specs.declared.operators.Operator.TheVariants as operators;
 ghost use Rattle.script_meaning.specs.Expressions.{goes_right, comma_rule, binary_rule, unary_rule, typeof_rule, void_rule, condition_rule, logical_rule};
 ghost use Rattle.script_meaning.specs.Places.{form_at};
 ghost use Rattle.script_steps.specs.After.{after, Steps, Waits};
+ghost use Rattle.script_steps.specs.Fits.{Is, IsForm, IsLogical, IsOperator, StepFits};
 ghost use Rattle.script_steps.specs.Sound.{IsSoundSite, IsSoundStep};
 
 use crate::ends::of_heap;
@@ -20,11 +22,13 @@ use std::alloc::Global;
 // ---- two operands
 
 /// Begins `a, b`.
-#[tactic(auto, unfolding(crate::specs::After::after, script_meaning::specs::Expressions::comma_rule))]
+#[tactic(auto, unfolding(crate::specs::After::after, script_meaning::specs::Expressions::comma_rule), using(crate::proofs::FitLemmas::fits))]
 #[inline(always)]
 pub(crate) fn begin_comma(scripts: &Scripts, node: u32, site: Site) -> Step
+    requires form { IsForm (Is Kind.Comma) scripts.now site.script node }
     ensures step { Waits scripts.now result (λ at s. comma_rule at ((form_at scripts.now site.script node).kids) site s) }
     ensures sound { (s : Store) → IsSoundSite s site → IsSoundStep s result }
+    ensures fits { StepFits scripts.now result }
 {
     let left = kid_at(scripts, site.script, node, 0);
     let right = kid_at(scripts, site.script, node, 1);
@@ -32,7 +36,7 @@ pub(crate) fn begin_comma(scripts: &Scripts, node: u32, site: Site) -> Step
 }
 
 /// Begins an operator of two operands.
-#[tactic(auto, unfolding(crate::specs::After::after, script_meaning::specs::Expressions::binary_rule))]
+#[tactic(auto, unfolding(crate::specs::After::after, script_meaning::specs::Expressions::binary_rule), using(crate::proofs::FitLemmas::fits))]
 #[inline(always)]
 pub(crate) fn begin_binary(
     scripts: &Scripts,
@@ -40,8 +44,10 @@ pub(crate) fn begin_binary(
     node: u32,
     site: Site,
 ) -> Step
+    requires form { IsForm (IsOperator (operators.Binary operator)) scripts.now site.script node }
     ensures step { Waits scripts.now result (λ at s. binary_rule operator at ((form_at scripts.now site.script node).kids) site s) }
     ensures sound { (s : Store) → IsSoundSite s site → IsSoundStep s result }
+    ensures fits { StepFits scripts.now result }
 {
     let left = kid_at(scripts, site.script, node, 0);
     let right = kid_at(scripts, site.script, node, 1);
@@ -65,6 +71,7 @@ pub(crate) fn left(
 ) -> Step
     ensures step { Waits scripts.now result (λ at s. after at scripts.now (Frame.Left operator right site) (Ok (Ended.Value left), s)) }
     ensures sound { (s : Store) → IsSoundSite s site → IsSoundValue s left → IsSoundStep s result }
+    ensures fits { StepFits scripts.now result }
 {
     let _ = scripts;
     Step::value(Frame::Right { operator, left }, right, site)
@@ -87,6 +94,7 @@ pub(crate) fn right(
     ensures grown { Grows heap.old heap.new }
     ensures closed { IsClosed heap.old → IsClosed heap.new }
     ensures sound { IsSoundStep heap.new result }
+    ensures fits { StepFits scripts.now result }
 {
     let _ = scripts;
     of_heap(js_ops::binary(alloc, heap, operator, left, right))
@@ -100,6 +108,7 @@ pub(crate) fn right(
 pub(crate) fn begin_unary(scripts: &Scripts, operator: UnaryOperator, node: u32, site: Site) -> Step
     ensures step { Waits scripts.now result (λ at s. unary_rule operator at ((form_at scripts.now site.script node).kids) site s) }
     ensures sound { (s : Store) → IsSoundSite s site → IsSoundStep s result }
+    ensures fits { StepFits scripts.now result }
 {
     let operand = kid_at(scripts, site.script, node, 0);
     Step::value(Frame::Operand { operator }, operand, site)
@@ -111,6 +120,7 @@ pub(crate) fn begin_unary(scripts: &Scripts, operator: UnaryOperator, node: u32,
 pub(crate) fn begin_typeof(scripts: &Scripts, node: u32, site: Site) -> Step
     ensures step { Waits scripts.now result (λ at s. typeof_rule scripts.now at ((form_at scripts.now site.script node).kids) site s) }
     ensures sound { (s : Store) → IsSoundSite s site → IsSoundStep s result }
+    ensures fits { StepFits scripts.now result }
 {
     let operand = kid_at(scripts, site.script, node, 0);
     match kind_at(scripts, site.script, operand) {
@@ -125,6 +135,7 @@ pub(crate) fn begin_typeof(scripts: &Scripts, node: u32, site: Site) -> Step
 pub(crate) fn begin_void(scripts: &Scripts, node: u32, site: Site) -> Step
     ensures step { Waits scripts.now result (λ at s. void_rule at ((form_at scripts.now site.script node).kids) site s) }
     ensures sound { (s : Store) → IsSoundSite s site → IsSoundStep s result }
+    ensures fits { StepFits scripts.now result }
 {
     let operand = kid_at(scripts, site.script, node, 0);
     Step::value(Frame::Void, operand, site)
@@ -145,6 +156,7 @@ pub(crate) fn operand(
     ensures grown { Grows heap.old heap.new }
     ensures closed { IsClosed heap.old → IsClosed heap.new }
     ensures sound { IsSoundStep heap.new result }
+    ensures fits { StepFits scripts.now result }
 {
     let _ = scripts;
     of_heap(js_ops::unary(alloc, heap, operator, operand))
@@ -153,11 +165,13 @@ pub(crate) fn operand(
 // ---- choices
 
 /// Begins `?:`.
-#[tactic(auto, unfolding(crate::specs::After::after, script_meaning::specs::Expressions::condition_rule))]
+#[tactic(auto, unfolding(crate::specs::After::after, script_meaning::specs::Expressions::condition_rule), using(crate::proofs::FitLemmas::fits))]
 #[inline(always)]
 pub(crate) fn begin_condition(scripts: &Scripts, node: u32, site: Site) -> Step
+    requires form { IsForm (Is Kind.Cond) scripts.now site.script node }
     ensures step { Waits scripts.now result (λ at s. condition_rule at ((form_at scripts.now site.script node).kids) site s) }
     ensures sound { (s : Store) → IsSoundSite s site → IsSoundStep s result }
+    ensures fits { StepFits scripts.now result }
 {
     let condition = kid_at(scripts, site.script, node, 0);
     let good = kid_at(scripts, site.script, node, 1);
@@ -166,11 +180,14 @@ pub(crate) fn begin_condition(scripts: &Scripts, node: u32, site: Site) -> Step
 }
 
 /// Begins `&&`, `||` or `??`.
-#[tactic(auto, unfolding(crate::specs::After::after, script_meaning::specs::Expressions::logical_rule))]
+#[tactic(auto, unfolding(crate::specs::After::after, script_meaning::specs::Expressions::logical_rule), using(crate::proofs::FitLemmas::fits))]
 #[inline(always)]
 pub(crate) fn begin_logical(scripts: &Scripts, operator: Kind, node: u32, site: Site) -> Step
+    requires logical { IsLogical operator }
+    requires form { IsForm (Is operator) scripts.now site.script node }
     ensures step { Waits scripts.now result (λ at s. logical_rule operator at ((form_at scripts.now site.script node).kids) site s) }
     ensures sound { (s : Store) → IsSoundSite s site → IsSoundStep s result }
+    ensures fits { StepFits scripts.now result }
 {
     let left = kid_at(scripts, site.script, node, 0);
     let right = kid_at(scripts, site.script, node, 1);
@@ -196,6 +213,7 @@ pub(crate) fn condition(
     requires { IsSoundValue heap.now condition }
     ensures step { Steps scripts.now result heap.now heap.now (λ at s. after at scripts.now (Frame.Condition good bad site) (Ok (Ended.Value condition), s)) }
     ensures sound { IsSoundSite heap.now site → IsSoundStep heap.now result }
+    ensures fits { StepFits scripts.now result }
 {
     let _ = scripts;
     let chosen = if truthy(heap, condition) { good } else { bad };
@@ -228,6 +246,7 @@ pub(crate) fn logical(
     requires { IsSoundValue heap.now left }
     ensures step { Steps scripts.now result heap.now heap.now (λ at s. after at scripts.now (Frame.Logical operator right site) (Ok (Ended.Value left), s)) }
     ensures sound { IsSoundSite heap.now site → IsSoundStep heap.now result }
+    ensures fits { StepFits scripts.now result }
 {
     let _ = scripts;
     if goes_right(heap, operator, left) {

@@ -4,6 +4,7 @@ ghost use Rattle.charged_heap.specs.Closed.{IsClosed, IsSoundValue};
 ghost use Rattle.charged_heap.specs.Growth.{Grows};
 ghost use Rattle.charged_heap.specs.Store.{Store};
 ghost use Rattle.script_steps.specs.After.{after, Turns};
+ghost use Rattle.script_steps.specs.Fits.{FrameFits, StepFits};
 ghost use Rattle.script_steps.specs.Groups.{TakesAnyEnd, TakesOperand, TakesPlace};
 ghost use Rattle.script_steps.specs.Sound.{IsSoundEnd, IsSoundFrame, IsSoundPlace, IsSoundStep};
 
@@ -40,12 +41,14 @@ fn resume_further(
     requires passes { TakesAnyEnd frame → ⊥ }
     requires operand { TakesOperand frame → ⊥ }
     requires value { IsSoundValue heap.old value }
+    requires fits { FrameFits scripts.now frame }
 
     ensures step { Turns scripts.now result heap.old heap.new (λ at s. after at scripts.now frame (Ok (Ended.Value value), s)) }
 
     ensures grown { Grows heap.old heap.new }
     ensures closed { IsClosed heap.new }
     ensures sound { IsSoundStep heap.new result }
+    ensures fits { StepFits scripts.now result }
 {
     match frame {
         Frame::AssignValue { place, site } => assign_value(
@@ -113,12 +116,14 @@ fn resume_value(
     requires frame { IsSoundFrame heap.old frame }
     requires passes { TakesAnyEnd frame → ⊥ }
     requires value { IsSoundValue heap.old value }
+    requires fits { FrameFits scripts.now frame }
 
     ensures step { Turns scripts.now result heap.old heap.new (λ at s. after at scripts.now frame (Ok (Ended.Value value), s)) }
 
     ensures grown { Grows heap.old heap.new }
     ensures closed { IsClosed heap.new }
     ensures sound { IsSoundStep heap.new result }
+    ensures fits { StepFits scripts.now result }
 {
     match frame {
         Frame::Pass => Step::Ended(Ok(Ended::Value(value))),
@@ -157,12 +162,14 @@ fn resume_place(
     requires frame { IsSoundFrame heap.old frame }
     requires passes { TakesAnyEnd frame → ⊥ }
     requires place { IsSoundPlace heap.old place }
+    requires fits { FrameFits scripts.now frame }
 
     ensures step { Turns scripts.now result heap.old heap.new (λ at s. after at scripts.now frame (Ok (Ended.Place place), s)) }
 
     ensures grown { Grows heap.old heap.new }
     ensures closed { IsClosed heap.new }
     ensures sound { IsSoundStep heap.new result }
+    ensures fits { StepFits scripts.now result }
 {
     match frame {
         Frame::TypeOfPlace { site } => type_of(alloc, scripts, heap, site, place),
@@ -197,12 +204,14 @@ fn resume_member(
     requires passes { TakesAnyEnd frame → ⊥ }
     requires function { IsSoundValue heap.old function }
     requires receiver { IsSoundValue heap.old receiver }
+    requires fits { FrameFits scripts.now frame }
 
     ensures step { Turns scripts.now result heap.old heap.new (λ at s. after at scripts.now frame (Ok (Ended.Member function receiver), s)) }
 
     ensures grown { Grows heap.old heap.new }
     ensures closed { IsClosed heap.new }
     ensures sound { IsSoundStep heap.new result }
+    ensures fits { StepFits scripts.now result }
 {
     match frame {
         Frame::Callee { node, site } => callee_member(
@@ -226,12 +235,14 @@ fn resume_form(
     requires frame { IsSoundFrame heap.old frame }
     requires passes { TakesAnyEnd frame → ⊥ }
     requires ended { IsSoundEnd heap.old ended }
+    requires fits { FrameFits scripts.now frame }
 
     ensures step { Turns scripts.now result heap.old heap.new (λ at s. after at scripts.now frame (ended, s)) }
 
     ensures grown { Grows heap.old heap.new }
     ensures closed { IsClosed heap.new }
     ensures sound { IsSoundStep heap.new result }
+    ensures fits { StepFits scripts.now result }
 {
     match ended {
         Ok(Ended::Value(value)) => resume_value(alloc, scripts, heap, frame, value),
@@ -263,12 +274,14 @@ pub fn resume(
     requires closed { IsClosed heap.old }
     requires frame { IsSoundFrame heap.old frame }
     requires ended { IsSoundEnd heap.old ended }
+    requires fits { FrameFits scripts.now frame }
 
     ensures step { Turns scripts.now result heap.old heap.new (λ at s. after at scripts.now frame (ended, s)) }
 
     ensures grown { Grows heap.old heap.new }
     ensures closed { IsClosed heap.new }
     ensures sound { IsSoundStep heap.new result }
+    ensures fits { StepFits scripts.now result }
 {
     match frame {
         Frame::List {

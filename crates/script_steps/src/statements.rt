@@ -9,6 +9,7 @@ ghost use Rattle.script_meaning.specs.Outcome.{Inside};
 ghost use Rattle.script_meaning.specs.Statements.{list_rule, block_rule, declare_rule, if_rule, return_rule, latest, ended_with, or_undefined};
 ghost use Rattle.script_meaning.specs.Places.{form_at};
 ghost use Rattle.script_steps.specs.After.{after, with_left, Steps, Waits};
+ghost use Rattle.script_steps.specs.Fits.{Is, IsDeclaration, IsForm, IsList, StepFits};
 ghost use Rattle.script_steps.specs.Sound.{IsSoundSite, IsSoundStep};
 
 use crate::ends::abrupt_of;
@@ -63,8 +64,10 @@ pub(crate) fn list_from(
     last: Option<Value>,
     site: Site,
 ) -> Step
+    requires form { IsForm IsList scripts.now site.script node }
     ensures step { Waits scripts.now result (λ at s. list_rule at (kids_from place ((form_at scripts.now site.script node).kids)) site last s) }
     ensures sound { (s : Store) → IsSoundSite s site → IfSome last (IsSoundValue s) → IsSoundStep s result }
+    ensures fits { StepFits scripts.now result }
 {
     if place < kid_count_at(scripts, site.script, node) {
         let statement = kid_at(scripts, site.script, node, place);
@@ -81,7 +84,7 @@ pub(crate) fn list_from(
 }
 
 /// Begins a block: where it declares something it has a scope of its own.
-#[tactic(auto, unfolding(script_meaning::specs::Statements::block_rule), using(crate::proofs::Growing::growing))]
+#[tactic(auto, unfolding(script_meaning::specs::Statements::block_rule), using(crate::proofs::FitLemmas::kinds_known, crate::proofs::Growing::growing))]
 #[inline(always)]
 pub(crate) fn begin_block(
     alloc: Global,
@@ -90,11 +93,13 @@ pub(crate) fn begin_block(
     node: u32,
     site: Site,
 ) -> Step
-    requires { IsSoundSite heap.old site }
+    requires site { IsSoundSite heap.old site }
+    requires form { IsForm (Is Kind.Block) scripts.now site.script node }
     ensures step { Steps scripts.now result heap.old heap.new (λ at s. block_rule at ((form_at scripts.now site.script node).kids) site s) }
     ensures grown { Grows heap.old heap.new }
     ensures closed { IsClosed heap.old → IsClosed heap.new }
     ensures sound { IsSoundStep heap.new result }
+    ensures fits { StepFits scripts.now result }
 {
     let declared = match declarations_at(alloc, scripts, site.script, node) {
         Ok(declared) => declared,
@@ -165,8 +170,10 @@ fn await_value(scripts: &Scripts, node: u32, place: u32, site: Site, initialiser
     requires named { place < length ((form_at scripts.now site.script node).head).names }
     requires initialiser { form_at scripts.now site.script initialiser ≡ kid place ((form_at scripts.now site.script node).kids) }
     requires there { ((kid place ((form_at scripts.now site.script node).kids)).head).kind ≢ Kind.Absent }
+    requires form { IsForm IsDeclaration scripts.now site.script node }
     ensures step { Waits scripts.now result (λ at s. declare_rule at (drop place ((form_at scripts.now site.script node).head).names) (kids_from place ((form_at scripts.now site.script node).kids)) site s) }
     ensures sound { (s : Store) → IsSoundSite s site → IsSoundStep s result }
+    ensures fits { StepFits scripts.now result }
 {
     let _ = scripts;
     Step::value(Frame::Declarator { node, place, site }, initialiser, site)
@@ -208,11 +215,13 @@ pub(crate) fn declare_from(
     place: u32,
     site: Site,
 ) -> Step
-    requires { IsSoundSite heap.old site }
+    requires site { IsSoundSite heap.old site }
+    requires form { IsForm IsDeclaration scripts.now site.script node }
     ensures step { Steps scripts.now result heap.old heap.new (λ at s. declare_rule at (drop place ((form_at scripts.now site.script node).head).names) (kids_from place ((form_at scripts.now site.script node).kids)) site s) }
     ensures grown { Grows heap.old heap.new }
     ensures closed { IsClosed heap.old → IsClosed heap.new }
     ensures sound { IsSoundStep heap.new result }
+    ensures fits { StepFits scripts.now result }
 {
     let next = leave_all_undefined(scripts, heap, node, place, site);
     if next >= kid_count_at(scripts, site.script, node) {
@@ -229,11 +238,13 @@ pub(crate) fn declare_from(
 #[tactic(auto, using(crate::proofs::ListLemmas::behind))]
 #[inline(always)]
 fn declare_behind(scripts: &Scripts, heap: &mut Heap, node: u32, place: u32, site: Site) -> Step
-    requires { IsSoundSite heap.old site }
+    requires site { IsSoundSite heap.old site }
+    requires form { IsForm IsDeclaration scripts.now site.script node }
     ensures step { Steps scripts.now result heap.old heap.new (λ at s. declare_rule at (drop (suc place) ((form_at scripts.now site.script node).head).names) (kids_from (suc place) ((form_at scripts.now site.script node).kids)) site s) }
     ensures grown { Grows heap.old heap.new }
     ensures closed { IsClosed heap.old → IsClosed heap.new }
     ensures sound { IsSoundStep heap.new result }
+    ensures fits { StepFits scripts.now result }
 {
     if place >= kid_count_at(scripts, site.script, node) {
         return Step::Ended(Ok(Ended::Empty));
@@ -279,10 +290,12 @@ pub(crate) fn declarator(
 ) -> Step
     requires site { IsSoundSite heap.old site }
     requires value { IsSoundValue heap.old value }
+    requires form { IsForm IsDeclaration scripts.now site.script node }
     ensures step { Steps scripts.now result heap.old heap.new (λ at s. after at scripts.now (Frame.Declarator node place site) (Ok (Ended.Value value), s)) }
     ensures grown { Grows heap.old heap.new }
     ensures closed { IsClosed heap.old → IsClosed heap.new }
     ensures sound { IsSoundStep heap.new result }
+    ensures fits { StepFits scripts.now result }
 {
     initialise_at(alloc, scripts, heap, node, place, site, value);
     declare_behind(scripts, heap, node, place, site)
@@ -291,11 +304,13 @@ pub(crate) fn declarator(
 // ---- choices and ends
 
 /// Begins `if`.
-#[tactic(auto, unfolding(crate::specs::After::after, script_meaning::specs::Statements::if_rule))]
+#[tactic(auto, unfolding(crate::specs::After::after, script_meaning::specs::Statements::if_rule), using(crate::proofs::FitLemmas::fits))]
 #[inline(always)]
 pub(crate) fn begin_if(scripts: &Scripts, node: u32, site: Site) -> Step
+    requires form { IsForm (Is Kind.If) scripts.now site.script node }
     ensures step { Waits scripts.now result (λ at s. if_rule at ((form_at scripts.now site.script node).kids) site s) }
     ensures sound { (s : Store) → IsSoundSite s site → IsSoundStep s result }
+    ensures fits { StepFits scripts.now result }
 {
     let condition = kid_at(scripts, site.script, node, 0);
     let good = kid_at(scripts, site.script, node, 1);
@@ -317,6 +332,7 @@ pub(crate) fn if_chosen(
     requires { IsSoundValue heap.now condition }
     ensures step { Steps scripts.now result heap.now heap.now (λ at s. after at scripts.now (Frame.If good bad site) (Ok (Ended.Value condition), s)) }
     ensures sound { IsSoundSite heap.now site → IsSoundStep heap.now result }
+    ensures fits { StepFits scripts.now result }
 {
     if truthy(heap, condition) {
         return Step::statement(Frame::Filled, good, site);
@@ -333,6 +349,7 @@ pub(crate) fn if_chosen(
 pub(crate) fn begin_return(scripts: &Scripts, node: u32, site: Site) -> Step
     ensures step { Waits scripts.now result (λ at s. return_rule at ((form_at scripts.now site.script node).kids) site s) }
     ensures sound { (s : Store) → IsSoundSite s site → IsSoundStep s result }
+    ensures fits { StepFits scripts.now result }
 {
     let value = kid_at(scripts, site.script, node, 0);
     match kind_at(scripts, site.script, value) {

@@ -11,5 +11,5 @@ loop-end-init c = record {
   grown = grows-refl c.args.heap.now;
   closed = c.requires.closed;
   sound = c.requires.site;
-  frames = frames_begin c.args.heap.now c.new-frames.result c.new-frames.ensures;
+  frames = frames_begin c.args.scripts.now c.args.heap.now c.new-frames.result c.new-frames.ensures;
 }

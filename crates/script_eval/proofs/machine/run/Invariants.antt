@@ -15,7 +15,7 @@ invariant-loop-end l = record {
   grown : Grows l.fn.heap l.heap;
   closed : IsClosed l.heap;
   sound : IsSoundControl l.heap l.next;
-  frames : AreSoundFrames l.heap l.frames;
+  frames : AreSoundFrames l.scripts l.heap l.frames;
 }
 
 abbrev pub decreases-loop-end : goal.decreases-loop-end
