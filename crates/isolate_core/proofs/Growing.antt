@@ -4,7 +4,7 @@ use Rattle.std.specs.Prelude.{slice_index_or, IfSome}
 use Rattle.std.specs.List.{All}
 use Rattle.std.proofs.lemmas.List.Elements.{All-nil, All-cons, All-append}
 use Rattle.std.proofs.lemmas.Map.Entries.{All-lookup}
-use Rattle.ivm_text.specs.Keys.{is_key, value_at}
+use Rattle.ivm_text.specs.Keys.{is_key}
 use Rattle.ivm_text.specs.declared.copies.ErrorKind.{ErrorKind}
 use Rattle.ivm_text.specs.declared.copies.Leaf.{Leaf}
 use Rattle.ivm_text.specs.declared.copies.Leaf.TheVariants as leaf
@@ -13,7 +13,7 @@ use Rattle.ivm_text.specs.declared.copies.Passed.TheVariants as passed
 use Rattle.charged_heap.specs.Closed.{IsClosed as IsClosedStore, IsSound, IsSoundValue}
 use Rattle.charged_heap.specs.Ends.{Ends, and_then}
 use Rattle.charged_heap.specs.Growth.{Grows}
-use Rattle.charged_heap.specs.Store.{Store, IsAt, item_at, kind_of, properties}
+use Rattle.charged_heap.specs.Store.{Store, IsAt, item_at, kind_of}
 use Rattle.charged_heap.specs.declared.fault.Fail.{Fail}
 use Rattle.charged_heap.specs.declared.item.Item.{Item}
 use Rattle.charged_heap.specs.declared.item.Item.TheVariants as item
@@ -25,7 +25,7 @@ use Rattle.charged_heap.proofs.ClosedLaws.{value_grows}
 use Rattle.script_eval.proofs.Roots.{global_held}
 use Rattle.script_meaning.specs.Places.{ScriptList}
 use Rattle.isolate_meaning.specs.State.{Context, Contents, AreClosed, IsClosedContext, IsRow}
-use Rattle.isolate_meaning.specs.Tasks.{context_at, no_context, row_value_in}
+use Rattle.isolate_meaning.specs.Tasks.{context_at, no_context, own_property_in, row_value_in}
 use Rattle.isolate_meaning.specs.Values.{passed_value, value_of}
 
 -- ---- growing
@@ -82,13 +82,13 @@ pub row_sound : (s : Store) (n : ℕ) (v : Value) → IsClosedStore s → IsAt I
 row_sound s n v closed at is =
     let sound : IsSound s n (item.Row v) = subst (IsSound s n) is (closed.sound n at.there) in sound
 
-property_of_item : (s : Store) (n : ℕ) (one : Item) (key : List ℕ) → IsSound s n one → IfSome (value_at (properties one) key) (IsSoundValue s)
+property_of_item : (s : Store) (n : ℕ) (one : Item) (key : List ℕ) → IsSound s n one → IfSome (own_property_in one key) (IsSoundValue s)
 property_of_item s n (item.Plain props) key sound = All-lookup (IsSoundValue s) (is_key key) props sound
 property_of_item s n _ key sound = tt
 
 -- so is what is found at a key of one
 pub found_sound : (s : Store) (v : Value) (n : ℕ) (key : List ℕ) (found : Option Value) → IsClosedStore s → IsSoundValue s v → v ≡ value.Item n
-    → found ≡ value_at (properties (item_at s n)) key → IfSome found (IsSoundValue s)
+    → found ≡ own_property_in (item_at s n) key → IfSome found (IsSoundValue s)
 found_sound s v n key found closed sound is at =
     let held : IsSoundValue s (value.Item n) = subst (IsSoundValue s) is sound in
     subst (λ one. IfSome one (IsSoundValue s)) (sym at) (property_of_item s n (item_at s n) key (closed.sound n held.there))

@@ -1,10 +1,8 @@
 //! The values of rows: how their properties are read and written.
 ghost use Rattle.std.specs.Prelude.{◌≡◌, ◌<◌, IfOk, IfSome, Some, length};
 ghost use Rattle.charged_heap.specs.Closed.{IsClosed as IsClosedStore, IsSoundValue};
-ghost use Rattle.charged_heap.specs.Store.{properties};
-ghost use Rattle.ivm_text.specs.Keys.{value_at};
 ghost use Rattle.isolate_meaning.specs.State.{AreClosed, HeapIsClosed};
-ghost use Rattle.isolate_meaning.specs.Tasks.{own_property, property_read, property_written, row_value};
+ghost use Rattle.isolate_meaning.specs.Tasks.{own_property, own_property_in, property_read, property_written, row_value};
 ghost use Rattle.isolate_core.specs.Contents.{contents_of};
 ghost use Rattle.isolate_core.specs.Done.{done_of};
 
@@ -34,7 +32,7 @@ fn row_value(contents: &Contents, row: u32) -> Value
 }
 
 fn item_property(item: &Item, key: &Units) -> Option<Value>
-    ensures { result ≡ value_at (properties item.now) key.now }
+    ensures { result ≡ own_property_in item.now key.now }
 {
     match item {
         Item::Plain(properties) => properties.get(key),

@@ -5,7 +5,7 @@ use Rattle.std.specs.Option.{unwrap_or, option_and_then}
 use Rattle.ivm_text.specs.Keys.{value_at}
 use Rattle.ivm_text.specs.declared.overrun.Overrun.{Overrun}
 use Rattle.charged_heap.specs.Price.{charge_of}
-use Rattle.charged_heap.specs.Store.{Store, item_at, properties}
+use Rattle.charged_heap.specs.Store.{Store, item_at}
 use Rattle.charged_heap.specs.declared.fault.Fail.TheVariants.{Throw, Over, NoMemory}
 use Rattle.charged_heap.specs.declared.item.Item.{Item}
 use Rattle.charged_heap.specs.declared.item.Item.TheVariants as item
@@ -141,10 +141,32 @@ row_value_in (item.Script number) = None
 abbrev pub row_value : Contents → ℕ → Option Value
 row_value contents row = row_value_in (item_at contents.store (slice_index_or contents.rows row 0))
 
--- the own property of a value; only objects have some
+-- the own property of an item; only objects have some, until references can name arrays and errors
+abbrev pub own_property_in : Item → List ℕ → Option Value
+own_property_in (item.Plain props) key = value_at props key
+own_property_in (item.Array values) key = None
+own_property_in (item.Error sort message) key = None
+own_property_in (item.Text units) key = None
+own_property_in (item.Scope parent bindings functions) key = None
+own_property_in (item.Closure number node scope global receiver) key = None
+own_property_in (item.Promise state reactions) key = None
+own_property_in (item.Settler promise good) key = None
+own_property_in (item.Reference to released) key = None
+own_property_in (item.Deref handle) key = None
+own_property_in (item.External copy) key = None
+own_property_in (item.Into copy) key = None
+own_property_in (item.Callback number) key = None
+own_property_in (item.Row v) key = None
+own_property_in (item.Script number) key = None
+
+-- the own property of a value; no value but an item has one
 abbrev pub own_property : Store → Value → List ℕ → Option Value
-own_property s (value.Item n) key = value_at (properties (item_at s n)) key
-own_property s _ key = None
+own_property s (value.Item n) key = own_property_in (item_at s n) key
+own_property s value.Undefined key = None
+own_property s value.Null key = None
+own_property s (value.Bool b) key = None
+own_property s (value.Num n) key = None
+own_property s (value.Builtin which) key = None
 
 -- a property of this value is read; one that isn't there is undefined
 abbrev pub property_told : List ℕ → Contents → Value → Done

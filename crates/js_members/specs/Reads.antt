@@ -41,7 +41,9 @@ abbrev pub array_member : List Value → Option MemberName → Reading
 array_member values (Some Length) = Held (value.Num (pos (length values)))
 array_member values (Some Push) = Held (value.Builtin builtin.ArrayPush)
 array_member values (Some Pop) = Held (value.Builtin builtin.ArrayPop)
-array_member values _ = Held value.Undefined
+array_member values (Some Name) = Held value.Undefined
+array_member values (Some Message) = Held value.Undefined
+array_member values None = Held value.Undefined
 
 -- at an index the element, and under another key the member of that name
 abbrev pub array_reading : List Value → Option ℕ → Option MemberName → Reading
@@ -52,7 +54,11 @@ array_reading values None name = array_member values name
 
 abbrev pub text_member : List ℕ → Option MemberName → Reading
 text_member units (Some Length) = Held (value.Num (pos (length units)))
-text_member units _ = Held value.Undefined
+text_member units (Some Push) = Held value.Undefined
+text_member units (Some Pop) = Held value.Undefined
+text_member units (Some Name) = Held value.Undefined
+text_member units (Some Message) = Held value.Undefined
+text_member units None = Held value.Undefined
 
 -- the string of one unit
 abbrev pub unit_reading : Option ℕ → Reading
@@ -77,17 +83,30 @@ error_name error.SyntaxError = codes "SyntaxError"
 abbrev pub error_member : ErrorKind → ℕ → Option MemberName → Reading
 error_member sort message (Some Name) = Made (error_name sort)
 error_member sort message (Some Message) = Held (value.Item message)
-error_member sort message _ = Held value.Undefined
+error_member sort message (Some Length) = Held value.Undefined
+error_member sort message (Some Push) = Held value.Undefined
+error_member sort message (Some Pop) = Held value.Undefined
+error_member sort message None = Held value.Undefined
 
 -- ---- all values
 
--- what a key reads of an item; items of the kinds that aren't named have no members
+-- what a key reads of an item; items of the last kinds have no members
 abbrev pub item_reading : Item → List ℕ → Reading
 item_reading (item.Text units) key = text_reading units (index_of key) (member_name key)
 item_reading (item.Plain props) key = or_undefined (value_at props key)
 item_reading (item.Array values) key = array_reading values (index_of key) (member_name key)
 item_reading (item.Error sort message) key = error_member sort message (member_name key)
-item_reading _ key = Held value.Undefined
+item_reading (item.Scope parent bindings functions) key = Held value.Undefined
+item_reading (item.Closure script node scope global receiver) key = Held value.Undefined
+item_reading (item.Promise state reactions) key = Held value.Undefined
+item_reading (item.Settler promise good) key = Held value.Undefined
+item_reading (item.Reference to released) key = Held value.Undefined
+item_reading (item.Deref handle) key = Held value.Undefined
+item_reading (item.External copy) key = Held value.Undefined
+item_reading (item.Into copy) key = Held value.Undefined
+item_reading (item.Callback callback) key = Held value.Undefined
+item_reading (item.Row v) key = Held value.Undefined
+item_reading (item.Script script) key = Held value.Undefined
 
 -- what a key reads of a value; undefined and null have no members, and reading one throws
 unfoldable pub reading_of : Store → Value → List ℕ → Reading

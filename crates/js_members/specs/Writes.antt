@@ -32,7 +32,19 @@ element_target n values None = Refused NotWritable
 abbrev pub item_target : ℕ → Item → List ℕ → Target
 item_target n (item.Plain props) key = Property n
 item_target n (item.Array values) key = element_target n values (index_of key)
-item_target n _ key = Refused NotWritable
+item_target n (item.Text units) key = Refused NotWritable
+item_target n (item.Error sort message) key = Refused NotWritable
+item_target n (item.Scope parent bindings functions) key = Refused NotWritable
+item_target n (item.Closure script node scope global receiver) key = Refused NotWritable
+item_target n (item.Promise state reactions) key = Refused NotWritable
+item_target n (item.Settler promise good) key = Refused NotWritable
+item_target n (item.Reference to released) key = Refused NotWritable
+item_target n (item.Deref handle) key = Refused NotWritable
+item_target n (item.External copy) key = Refused NotWritable
+item_target n (item.Into copy) key = Refused NotWritable
+item_target n (item.Callback callback) key = Refused NotWritable
+item_target n (item.Row v) key = Refused NotWritable
+item_target n (item.Script script) key = Refused NotWritable
 
 unfoldable pub target_of : Store → Value → List ℕ → Target
 target_of s value.Undefined key = Refused NoObject

@@ -35,7 +35,44 @@ no_function s = thrown TypeError (codes "not a function") s
 abbrev pub builtin_outcome : Builtin → Value → List Value → Store → Ends Value
 builtin_outcome builtin.ArrayPush receiver arguments s = push_outcome receiver arguments s
 builtin_outcome builtin.ArrayPop receiver arguments s = pop_outcome receiver s
-builtin_outcome _ receiver arguments s = no_function s
+builtin_outcome builtin.Object receiver arguments s = no_function s
+builtin_outcome builtin.ObjectKeys receiver arguments s = no_function s
+builtin_outcome builtin.Array receiver arguments s = no_function s
+builtin_outcome builtin.ArrayIsArray receiver arguments s = no_function s
+builtin_outcome builtin.String receiver arguments s = no_function s
+builtin_outcome builtin.Number receiver arguments s = no_function s
+builtin_outcome builtin.Error receiver arguments s = no_function s
+builtin_outcome builtin.TypeError receiver arguments s = no_function s
+builtin_outcome builtin.RangeError receiver arguments s = no_function s
+builtin_outcome builtin.ReferenceError receiver arguments s = no_function s
+builtin_outcome builtin.SyntaxError receiver arguments s = no_function s
+builtin_outcome builtin.Promise receiver arguments s = no_function s
+builtin_outcome builtin.PromiseResolve receiver arguments s = no_function s
+builtin_outcome builtin.PromiseReject receiver arguments s = no_function s
+builtin_outcome builtin.Reference receiver arguments s = no_function s
+builtin_outcome builtin.ExternalCopy receiver arguments s = no_function s
+builtin_outcome builtin.ArrayJoin receiver arguments s = no_function s
+builtin_outcome builtin.ArraySlice receiver arguments s = no_function s
+builtin_outcome builtin.ArrayIndexOf receiver arguments s = no_function s
+builtin_outcome builtin.StringCharCodeAt receiver arguments s = no_function s
+builtin_outcome builtin.StringSlice receiver arguments s = no_function s
+builtin_outcome builtin.StringIndexOf receiver arguments s = no_function s
+builtin_outcome builtin.PromiseThen receiver arguments s = no_function s
+builtin_outcome builtin.PromiseCatch receiver arguments s = no_function s
+builtin_outcome builtin.ReferenceGet receiver arguments s = no_function s
+builtin_outcome builtin.ReferenceSet receiver arguments s = no_function s
+builtin_outcome builtin.ReferenceApply receiver arguments s = no_function s
+builtin_outcome builtin.ReferenceApplyIgnored receiver arguments s = no_function s
+builtin_outcome builtin.ReferenceCopy receiver arguments s = no_function s
+builtin_outcome builtin.ReferenceDeref receiver arguments s = no_function s
+builtin_outcome builtin.ReferenceDerefInto receiver arguments s = no_function s
+builtin_outcome builtin.ReferenceRelease receiver arguments s = no_function s
+builtin_outcome builtin.ReferenceGetSync receiver arguments s = no_function s
+builtin_outcome builtin.ReferenceSetSync receiver arguments s = no_function s
+builtin_outcome builtin.ReferenceApplySync receiver arguments s = no_function s
+builtin_outcome builtin.ReferenceCopySync receiver arguments s = no_function s
+builtin_outcome builtin.ExternalCopyCopy receiver arguments s = no_function s
+builtin_outcome builtin.ExternalCopyCopyInto receiver arguments s = no_function s
 
 -- its call takes a tick of its own
 unfoldable pub builtin_rule : Builtin → Value → List Value → State → Out
